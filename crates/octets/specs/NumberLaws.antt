@@ -1,0 +1,98 @@
+-- Laws of numbers in octets, each once over the width. Assumes nothing.
+use mathlib.Core.Path.{_≡_, refl, sym, ap, ap₂, _∙_}
+use mathlib.Core.Logic.{_⊎_, inl, inr, ⊎-elim}
+use mathlib.Core.List.{List, [], _∷_, _++_}
+use Prim.Native.Nat.{ℕ, zero, suc, _+_, _*_, _/_, _%_, _^_, _≤_, _<_}
+use native.Mathlib.Nat.{add-zero, add-suc, add-assoc, zero-add, mul-one, mul-assoc, pow-suc, pow-zero, add-mul, mod-one, mod-eq-of-lt, mod-lt}
+use native.Mathlib.Omega.{arith}
+use lib.Arith.{mod-mul, digits-lt}
+use lib.ListN.{length, drop, length-append, List·getD-append}
+use lib.Seq.{getD-drop, getD-at}
+use Rattle.octets.specs.Number.{octet, number, octets}
+use Rattle.octets.specs.Run.{laid}
+use Rattle.octets.specs.RunLaws.{laid-in, laid-out}
+
+-- ---- reading
+
+-- A number is what its octets make it.
+pub number-ext : (w : ℕ) (s t : List ℕ) (a b : ℕ) → ((k : ℕ) → k < w → octet s (a + k) ≡ octet t (b + k)) → number w s a ≡ number w t b
+unfolding number
+number-ext zero s t a b h = refl
+number-ext (suc w) s t a b h =
+    ap₂ (λ (x y : ℕ). x * 256 + y) (number-ext w s t a b (λ k q. h k (omega arith))) (h w (omega arith))
+
+-- Read from the part that starts at k, a place counts from k on.
+pub number-drop : (w k : ℕ) (s : List ℕ) (at : ℕ) → number w (drop k s) at ≡ number w s (k + at)
+number-drop w k s at = number-ext w (drop k s) s at (k + at) (λ j q. getD-drop k s (at + j) 0 ∙ ap (octet s) (omega arith))
+
+-- Two numbers side by side are one.
+pub number-cat : (a b : ℕ) (s : List ℕ) (at : ℕ) → number (a + b) s at ≡ number a s at * 256 ^ b + number b s (at + a)
+unfolding number
+number-cat a zero s at = rw (add-zero a) (omega arith)
+number-cat a (suc b) s at =
+    let e : at + (a + b) ≡ at + a + b = omega arith in
+    rw (add-suc a b, number-cat a b s at, e, pow-suc 256 b)
+    (omega (arith, add-mul (number a s at * 256 ^ b) (number b s (at + a)) 256, mul-assoc (number a s at) (256 ^ b) 256))
+
+pub number-one : (s : List ℕ) (at : ℕ) → number 1 s at ≡ octet s at
+unfolding number
+number-one s at = zero-add (octet s (at + 0)) ∙ ap (octet s) (add-zero at)
+
+-- The two halves of a number, read from the part t that starts at its place.
+pub number-halves : (w : ℕ) (s : List ℕ) (at : ℕ) (t : List ℕ) (high low : ℕ) → t ≡ drop at s → high ≡ number w t 0 → low ≡ number w t w
+    → high * 256 ^ w + low ≡ number (w + w) s at
+number-halves w s at t high low e h l =
+    let a : number w (drop at s) 0 ≡ number w s at = number-drop w at s 0 ∙ ap (number w s) (add-zero at) in
+    rw (h, l, e, a, number-drop w at s w) (sym (number-cat w w s at))
+
+-- A list of octets.
+pub record Octets (s : List ℕ) : Type 0 where
+  pub small : (i : ℕ) → octet s i < 256
+
+pub number-bound : (w : ℕ) (s : List ℕ) (at : ℕ) → Octets s → number w s at < 256 ^ w
+unfolding number
+number-bound zero s at o = omega arith
+number-bound (suc w) s at o = rw (pow-suc 256 w) (digits-lt (number-bound w s at o) (o .small (at + w)))
+
+-- ---- writing
+
+pub length-octets : (w x : ℕ) → length (octets w x) ≡ w
+unfolding octets
+length-octets zero x = refl
+length-octets (suc w) x = rw (length-append (octets w (x / 256)) (x % 256 ∷ []), length-octets w (x / 256)) (omega arith)
+
+-- The octets of a number make it again, as far as they reach.
+pub number-octets : (w x : ℕ) → number w (octets w x) 0 ≡ x % 256 ^ w
+unfolding number octets
+number-octets zero x = sym (mod-one x)
+number-octets (suc w) x =
+    let front = octets w (x / 256) in
+    let last : octet (front ++ (x % 256 ∷ [])) (0 + w) ≡ x % 256
+    = ap (octet (front ++ (x % 256 ∷ []))) (zero-add w) ∙ getD-at front (x % 256) [] 0 w (length-octets w (x / 256)) in
+    let rest : number w (front ++ (x % 256 ∷ [])) 0 ≡ number w front 0
+    = number-ext w (front ++ (x % 256 ∷ [])) front 0 0 (λ k q. List·getD-append front (x % 256 ∷ []) 0 (0 + k) (omega (arith, length-octets w (x / 256)))) in
+    let e : number w (front ++ (x % 256 ∷ [])) 0 * 256 + octet (front ++ (x % 256 ∷ [])) (0 + w) ≡ (x / 256 % 256 ^ w) * 256 + x % 256
+    = ap₂ (λ (a b : ℕ). a * 256 + b) (rest ∙ number-octets w (x / 256)) last in
+    e ∙ sym (ap (λ (m : ℕ). x % m) (pow-suc 256 w) ∙ mod-mul x (pos w) (omega arith))
+  where
+    pos : (k : ℕ) → zero < 256 ^ k
+    pos zero = omega arith
+    pos (suc k) = rw (pow-suc 256 k) (omega (arith, pos k))
+
+pub number-octets-fits : (w x : ℕ) → x < 256 ^ w → number w (octets w x) 0 ≡ x
+number-octets-fits w x h = number-octets w x ∙ mod-eq-of-lt h
+
+-- What was written is read back.
+pub number-laid : (w : ℕ) (s : List ℕ) (at x : ℕ) → at + w ≤ length s → x < 256 ^ w → number w (laid s at (octets w x)) at ≡ x
+number-laid w s at x fits h =
+    let l = length-octets w x in
+    number-ext w (laid s at (octets w x)) (octets w x) at 0
+    (λ k q. laid-in s at (octets w x) (omega arith) k (omega arith) ∙ ap (octet (octets w x)) (omega arith))
+    ∙ number-octets-fits w x h
+
+-- A number that stands beside what was laid down stays.
+pub number-beside : (w : ℕ) (s : List ℕ) (a b : ℕ) (p : List ℕ) → b + length p ≤ length s → (a + w ≤ b) ⊎ (b + length p ≤ a)
+    → number w (laid s b p) a ≡ number w s a
+number-beside w s a b p fits = ⊎-elim
+    (λ (h : a + w ≤ b). number-ext w (laid s b p) s a a (λ k q. laid-out s b p fits (a + k) (inl (omega arith))))
+    (λ (h : b + length p ≤ a). number-ext w (laid s b p) s a a (λ k q. laid-out s b p fits (a + k) (inr (omega arith))))

@@ -1,0 +1,34 @@
+-- The number check (D.3.1.3): 01's four rules, in their order.
+use Prim.Native.Nat.{ℕ, _-_}
+use mathlib.Core.Bool.{cond, not, _&&_}
+use lib.Dec.{eqb, ltb}
+use Rattle.ring.specs.declared.Verdict.{Verdict}
+use Rattle.ring.specs.declared.Verdict.the-variants.{Unchecked, First, Restart, Repeat, Next, Gap}
+use Rattle.ring.specs.Ring.{M, back, skipped}
+
+-- "4. Let d be the remainder of R − SEQ by M, 0 to M − 1. d < N1: repeat. d = M − 1: next. Otherwise gap, with (SEQ − R − 1) modulo M numbers skipped."
+unfoldable pub rule4 : ℕ → ℕ → ℕ → Verdict
+rule4 n1 r s = cond (ltb (back r s) n1) Repeat (cond (eqb (back r s) (M - 1)) Next (Gap (skipped r s)))
+
+-- "1. V_SEQ = 0 and SEQ = 1: unchecked. 2. RV = 0: first. 3. V_SEQ differs from RV: restart. 4. …"
+unfoldable pub check : ℕ → ℕ → ℕ → ℕ → ℕ → Verdict
+check n1 rv r v s =
+    cond (eqb v 0 && eqb s 1) Unchecked (cond (eqb rv 0) First (cond (not (eqb v rv)) Restart (rule4 n1 r s)))
+
+-- "Verdicts: 1 first, 2 next, 3 restart, 4 gap, 5 unchecked, 0 where nothing is delivered."
+abbrev pub verdictNumber : Verdict → ℕ
+verdictNumber Unchecked = 5
+verdictNumber First = 1
+verdictNumber Restart = 3
+verdictNumber Repeat = 0
+verdictNumber Next = 2
+verdictNumber (Gap k) = 4
+
+-- How many numbers were skipped: none but in a gap.
+abbrev pub verdictSkipped : Verdict → ℕ
+verdictSkipped Unchecked = 0
+verdictSkipped First = 0
+verdictSkipped Restart = 0
+verdictSkipped Repeat = 0
+verdictSkipped Next = 0
+verdictSkipped (Gap k) = k

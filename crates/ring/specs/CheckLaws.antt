@@ -1,0 +1,108 @@
+-- Facts of the number check, over any kept version RV and number R: exactly one verdict applies. Assumes nothing.
+use mathlib.Core.Path.{_≡_, refl, sym, ap, _∙_}
+use mathlib.Core.Logic.{_≢_, _⊎_, inl, inr, ⊎-elim}
+use mathlib.Core.Bool.{Bool, true, false, cond, not, _&&_}
+use Prim.Native.Nat.{ℕ, _+_, _-_, _≤_, _<_}
+use native.Mathlib.Omega.{arith}
+use lib.Dec.{eqb, ltb}
+use borrow.Author.Tests.{eqb-true, eqb-false, eq-eqb, ne-eqb, lt-ltb, le-ltb}
+use Rattle.octets.specs.Split.{lt-or-le, eq-or-ne, true-or-false, and-left, and-right, both, not-both, never-both}
+use Rattle.ring.specs.declared.Verdict.{Verdict}
+use Rattle.ring.specs.declared.Verdict.the-variants.{Unchecked, First, Restart, Repeat, Next, Gap}
+use Rattle.ring.specs.Ring.{M, OnRing, back, skipped}
+use Rattle.ring.specs.RingLaws.{skipped-back}
+use Rattle.ring.specs.Check.{check, rule4}
+
+-- Rule 4 by the distance alone.
+pub rule4-by-distance : (n1 r s d : ℕ) → d ≡ back r s
+    → cond (ltb d n1) Repeat (cond (eqb d (M - 1)) Next (Gap (M - 1 - d))) ≡ rule4 n1 r s
+unfolding rule4
+rule4-by-distance n1 r s d e = rw (e, ← skipped-back r s)
+
+module _ (n1 rv r v s : ℕ) where
+  -- "V_SEQ = 0 and SEQ = 1"
+  abbrev Free : Type 0
+  Free = (v ≡ 0) × (s ≡ 1)
+
+  -- The four rules as they are printed, "in this order": each applies where none before it does.
+  pub data Says : Verdict → Type 0 where
+    rule-1 : v ≡ 0 → s ≡ 1 → Says Unchecked
+    rule-2 : ¬ Free → rv ≡ 0 → Says First
+    rule-3 : ¬ Free → rv ≢ 0 → v ≢ rv → Says Restart
+    rule-4-repeat : ¬ Free → rv ≢ 0 → v ≡ rv → back r s < n1 → Says Repeat
+    rule-4-next : ¬ Free → rv ≢ 0 → v ≡ rv → n1 ≤ back r s → back r s ≡ M - 1 → Says Next
+    rule-4-gap : ¬ Free → rv ≢ 0 → v ≡ rv → n1 ≤ back r s → back r s ≢ M - 1 → Says (Gap (skipped r s))
+
+  pub check-free : v ≡ 0 → s ≡ 1 → check n1 rv r v s ≡ Unchecked
+  unfolding check
+  check-free e f = simp (eq-eqb v 0 e, eq-eqb s 1 f)
+
+  not-free : ¬ Free → eqb v 0 && eqb s 1 ≡ false
+  not-free n = not-both (eqb v 0) (eqb s 1) (λ e f. n (eqb-true v 0 e, eqb-true s 1 f))
+
+  pub check-first : ¬ Free → rv ≡ 0 → check n1 rv r v s ≡ First
+  unfolding check
+  check-first n e = simp (not-free n, eq-eqb rv 0 e)
+
+  pub check-restart : ¬ Free → rv ≢ 0 → v ≢ rv → check n1 rv r v s ≡ Restart
+  unfolding check
+  check-restart n e f = simp (not-free n, ne-eqb rv 0 e, ne-eqb v rv f)
+
+  pub check-rule4 : ¬ Free → rv ≢ 0 → v ≡ rv → check n1 rv r v s ≡ rule4 n1 r s
+  unfolding check
+  check-rule4 n e f = simp (not-free n, ne-eqb rv 0 e, eq-eqb v rv f)
+
+  rule4-repeat : back r s < n1 → rule4 n1 r s ≡ Repeat
+  unfolding rule4
+  rule4-repeat h = rw (lt-ltb (back r s) n1 h)
+
+  rule4-next : n1 ≤ back r s → back r s ≡ M - 1 → rule4 n1 r s ≡ Next
+  unfolding rule4
+  rule4-next h e = simp (le-ltb (back r s) n1 h, eq-eqb (back r s) (M - 1) e)
+
+  rule4-gap : n1 ≤ back r s → back r s ≢ M - 1 → rule4 n1 r s ≡ Gap (skipped r s)
+  unfolding rule4
+  rule4-gap h e = simp (le-ltb (back r s) n1 h, ne-eqb (back r s) (M - 1) e)
+
+  -- No verdict but the check's applies.
+  pub says-only : {x : Verdict} → Says x → x ≡ check n1 rv r v s
+  says-only (rule-1 e f) = sym (check-free e f)
+  says-only (rule-2 n e) = sym (check-first n e)
+  says-only (rule-3 n e f) = sym (check-restart n e f)
+  says-only (rule-4-repeat n e f h) = sym (check-rule4 n e f ∙ rule4-repeat h)
+  says-only (rule-4-next n e f h g) = sym (check-rule4 n e f ∙ rule4-next h g)
+  says-only (rule-4-gap n e f h g) = sym (check-rule4 n e f ∙ rule4-gap h g)
+
+  abbrev Some : Type 0
+  Some = (x : Verdict) × Says x
+
+  some-4 : ¬ Free → rv ≢ 0 → v ≡ rv → Some
+  some-4 n e f = ⊎-elim
+      (λ (h : back r s < n1). (Repeat, rule-4-repeat n e f h))
+      (λ (h : n1 ≤ back r s). ⊎-elim
+      (λ (g : back r s ≡ M - 1). (Next, rule-4-next n e f h g))
+      (λ (g : back r s ≢ M - 1). (Gap (skipped r s), rule-4-gap n e f h g))
+      (eq-or-ne (back r s) (M - 1)))
+      (lt-or-le (back r s) n1)
+
+  some-2 : ¬ Free → Some
+  some-2 n = ⊎-elim
+      (λ (e : rv ≡ 0). (First, rule-2 n e))
+      (λ (e : rv ≢ 0). ⊎-elim
+      (λ (f : v ≡ rv). some-4 n e f)
+      (λ (f : v ≢ rv). (Restart, rule-3 n e f))
+      (eq-or-ne v rv))
+      (eq-or-ne rv 0)
+
+  some-1 : Some
+  some-1 = ⊎-elim
+      (λ (e : v ≡ 0). ⊎-elim
+      (λ (f : s ≡ 1). (Unchecked, rule-1 e f))
+      (λ (f : s ≢ 1). some-2 (λ g. f (g .1)))
+      (eq-or-ne s 1))
+      (λ (e : v ≢ 0). some-2 (λ g. e (g .0)))
+      (eq-or-ne v 0)
+
+  -- And the check's does.
+  pub says-check : Says (check n1 rv r v s)
+  says-check = rw (says-only (some-1 .1)) at (some-1 .1)

@@ -1,0 +1,5 @@
+pub mod Ring
+pub mod RingLaws
+pub mod Check
+pub mod CheckLaws
+pub mod Table14

@@ -1,0 +1,55 @@
+-- Laws of the ring. Assumes nothing.
+use mathlib.Core.Path.{_≡_, refl, sym, ap, _∙_}
+use mathlib.Core.Logic.{_≢_, _⊎_, inl, inr, ⊎-elim}
+use mathlib.Core.Bool.{Bool, true, false}
+use Prim.Native.Nat.{ℕ, suc, _+_, _-_, _*_, _/_, _%_, _≤_, _<_}
+use native.Mathlib.Nat.{mod-lt}
+use native.Mathlib.Omega.{arith}
+use borrow.Author.Tests.{lt-ltb, le-ltb}
+use Rattle.octets.specs.Split.{lt-or-le, eq-or-ne}
+use Rattle.ring.specs.Ring.{M, OnRing, remainder, back, skipped, newer}
+
+pub remainder-bound : (a b : ℕ) → remainder a b < M
+unfolding remainder
+remainder-bound a b = mod-lt (a % M + (M - b % M)) (omega arith)
+
+-- Going on from b by the remainder leads to a, modulo M.
+pub remainder-on : (a b : ℕ) → (b + remainder a b) % M ≡ a % M
+unfolding remainder
+remainder-on a b = omega arith
+
+-- No other distance on the ring does.
+pub remainder-only : (a b d : ℕ) → d < M → (b + d) % M ≡ a % M → d ≡ remainder a b
+unfolding remainder
+remainder-only a b d h e = omega arith
+
+-- On the ring, a number that is not larger lies as far back as the difference,
+pub back-below : (r s : ℕ) → OnRing r → OnRing s → s ≤ r → back r s ≡ r - s
+unfolding remainder
+back-below r s hr hs h = omega arith
+
+-- and a larger one as far as the way round.
+pub back-above : (r s : ℕ) → OnRing r → OnRing s → r < s → back r s ≡ r + M - s
+unfolding remainder
+back-above r s hr hs h = omega arith
+
+-- What is skipped is what lies between: all of the ring but the way back and the number itself.
+pub skipped-back : (r s : ℕ) → skipped r s ≡ M - 1 - back r s
+unfolding remainder
+skipped-back r s = omega arith
+
+-- Exactly one of same, newer and older holds of two numbers on the ring.
+pub data Order (a b : ℕ) : Type 0 where
+  same : a ≡ b → newer a b ≡ false → newer b a ≡ false → Order a b
+  isNewer : a ≢ b → newer a b ≡ true → newer b a ≡ false → Order a b
+  isOlder : a ≢ b → newer a b ≡ false → newer b a ≡ true → Order a b
+
+pub one-order : (a b : ℕ) → OnRing a → OnRing b → Order a b
+unfolding newer
+one-order a b ha hb = ⊎-elim
+    (λ (h : a < b). isOlder (λ e. omega arith) (le-ltb b a (omega arith)) (lt-ltb a b h))
+    (λ (h : b ≤ a). ⊎-elim
+    (λ (e : a ≡ b). same e (le-ltb b a (omega arith)) (le-ltb a b h))
+    (λ (n : a ≢ b). isNewer n (lt-ltb b a (omega arith)) (le-ltb a b h))
+    (eq-or-ne a b))
+    (lt-or-le a b)

@@ -1,0 +1,104 @@
+// Versions and sequence numbers: how far back a number lies on the ring 1 to M, which of two numbers is newer, and the
+// number check with its verdict. Nothing above this crate compares sequence numbers in any other way.
+//
+// Every function is total: a number outside 1 to M is taken modulo M.
+ghost use mathlib.Core.Path.{_≡_};
+ghost use mathlib.Core.Bool.{cond};
+ghost use Prim.Native.Nat.{_-_, _<_};
+ghost use lib.Dec.{eqb, ltb};
+ghost use Rattle.ring.specs.declared.Verdict.the-variants.{Repeat, Next, Gap};
+ghost use Rattle.ring.specs.Ring.{M as last, back as backOf, newer as isNewer};
+ghost use Rattle.ring.specs.Check.{check, verdictNumber, verdictSkipped};
+
+// V_SEQ: any 32-bit number.
+pub struct Version(pub u32);
+
+// SEQ: 1 to M, used cyclically.
+pub struct Number(pub u32);
+
+pub const M: u32 = 2_147_483_647;
+
+// What the number check says of a message. A repeat is refused, so it has no verdict of its own in what is printed.
+pub enum Verdict {
+    Unchecked,
+    First,
+    Restart,
+    Repeat,
+    Next,
+    // how many numbers were skipped
+    Gap(u32),
+}
+
+// How far back s lies behind r, 0 to M - 1.
+pub fn back(r: Number, s: Number) -> u32
+    ensures { λ d. ⌜ d ≡ backOf (r .0) (s .0) ⌝ }
+{
+    (r.0 % M + (M - s.0 % M)) % M
+}
+
+// Whether a is newer than b.
+pub fn newer(a: Number, b: Number) -> bool
+    ensures { λ x. ⌜ x ≡ isNewer (a .0) (b .0) ⌝ }
+{
+    b.0 < a.0
+}
+
+// What the last delivered version rv and number r make of a message with version v and number s.
+pub fn number_check(n1: u16, rv: Version, r: Number, v: Version, s: Number) -> Verdict
+    ensures { λ x. ⌜ x ≡ check n1 (rv .0) (r .0) (v .0) (s .0) ⌝ }
+{
+    if (v.0 == 0) & (s.0 == 1) {
+        return Verdict::Unchecked;
+    }
+    if rv.0 == 0 {
+        return Verdict::First;
+    }
+    if v.0 != rv.0 {
+        return Verdict::Restart;
+    }
+    by_distance(n1, back(r, s))
+}
+
+// Rule 4, for a number that lies d back.
+fn by_distance(n1: u16, d: u32) -> Verdict
+    requires { ⌜ d < last ⌝ }
+    ensures { λ x. ⌜ x ≡ cond (ltb d n1) Repeat (cond (eqb d (last - 1)) Next (Gap (last - 1 - d))) ⌝ }
+{
+    if d < n1 as u32 {
+        return Verdict::Repeat;
+    }
+    if d == M - 1 {
+        return Verdict::Next;
+    }
+    Verdict::Gap(M - 1 - d)
+}
+
+impl Verdict {
+    // The number that is printed: 0 where nothing is delivered.
+    pub fn printed(self) -> u8
+        ensures { λ r. ⌜ r ≡ verdictNumber self ⌝ }
+    {
+        match self {
+            Verdict::First => 1,
+            Verdict::Next => 2,
+            Verdict::Restart => 3,
+            Verdict::Gap(_) => 4,
+            Verdict::Unchecked => 5,
+            Verdict::Repeat => 0,
+        }
+    }
+
+    // How many numbers were skipped.
+    pub fn skipped(self) -> u32
+        ensures { λ r. ⌜ r ≡ verdictSkipped self ⌝ }
+    {
+        match self {
+            Verdict::Gap(k) => k,
+            Verdict::Unchecked => 0,
+            Verdict::First => 0,
+            Verdict::Restart => 0,
+            Verdict::Repeat => 0,
+            Verdict::Next => 0,
+        }
+    }
+}
