@@ -1,0 +1,58 @@
+//! `second tally`: how often each answer of each kind of line occurred.
+
+use std::collections::BTreeMap;
+
+/// Reads printed lines and gives "KIND NUMBER COUNT" lines, sorted. The kinds
+/// are the lines' own letters (A, C, E, P, S) and V for the verdict of a P
+/// line; E, which bears no number, is counted under 0.
+pub fn counts(lines: &str) -> Result<String, String> {
+    let mut counts: BTreeMap<(char, u64), u64> = BTreeMap::new();
+    for (at, line) in lines.lines().enumerate() {
+        let kinds = kinds_of(line).ok_or(format!("line {}: not a line: {line:?}", at + 1))?;
+        for kind in kinds {
+            *counts.entry(kind).or_default() += 1;
+        }
+    }
+    let written = counts
+        .iter()
+        .map(|((kind, number), count)| format!("{kind} {number} {count}\n"));
+    Ok(written.collect())
+}
+
+/// What one line counts for; None where it is not one of the program's lines.
+fn kinds_of(line: &str) -> Option<Vec<(char, u64)>> {
+    let mut words = line.split(' ');
+    let kind = words.next()?;
+    let numbers: Vec<u64> = words.map(|word| word.parse().ok()).collect::<Option<_>>()?;
+    match (kind, &numbers[..]) {
+        ("S", [answer]) => Some(vec![('S', *answer)]),
+        ("P", [answer, verdict, _, _]) => Some(vec![('P', *answer), ('V', *verdict)]),
+        ("C", [answer, _, _]) => Some(vec![('C', *answer)]),
+        ("A", [answer]) => Some(vec![('A', *answer)]),
+        ("E", []) => Some(vec![('E', 0)]),
+        _ => None,
+    }
+}
+
+#[cfg(test)]
+mod tests {
+    use super::*;
+
+    #[test]
+    fn counts_answers_and_verdicts() {
+        let lines = "S 0\nP 0 0 1 0\nP 17 0 0 0\nP 1 1 0 4500\nC 0 3 0\nA 22\nA 0\nP 1 1 0 7\nE\n";
+        let expected = "A 0 1\nA 22 1\nC 0 1\nE 0 1\nP 0 1\nP 1 2\nP 17 1\nS 0 1\nV 0 2\nV 1 2\n";
+        assert_eq!(counts(lines).unwrap(), expected);
+    }
+
+    #[test]
+    fn tells_the_number_of_a_wrong_line() {
+        for wrong in ["P 1 1 0", "Q 1", "S", "S x", "", "C 0 0 0 0", "E 1", "S  0"] {
+            let lines = format!("S 0\n{wrong}\n");
+            assert!(
+                counts(&lines).unwrap_err().starts_with("line 2:"),
+                "{wrong}"
+            );
+        }
+    }
+}

@@ -1,0 +1,21 @@
+//! A second, independent receiver for ADP R3.0 (MSTC/JOP 1101).
+//!
+//! It was written from the papers alone, to be compared line by line with the
+//! proved one. "01" is the paper `01-scope.md`, "001" the English ADP R3.0;
+//! words between quotation marks are theirs.
+
+pub mod alive;
+pub mod answers;
+pub mod clock;
+pub mod counts;
+pub mod cut;
+pub mod fields;
+pub mod header;
+pub mod numbers;
+pub mod octets;
+pub mod random;
+pub mod receiver;
+pub mod scenes;
+pub mod state;
+pub mod tally;
+pub mod text;

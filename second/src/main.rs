@@ -1,0 +1,67 @@
+//! The program `second`: one subcommand for each thing it can do.
+
+use std::io::{self, Read, Write};
+use std::process::ExitCode;
+
+use second::{counts, fields, random, text};
+
+const USAGE: &str = "usage: second run < capture
+       second capture < text > capture
+       second random SEED COUNT > capture
+       second random-cut SEED > capture
+       second tally < lines
+";
+
+fn main() -> ExitCode {
+    let words: Vec<String> = std::env::args().skip(1).collect();
+    let words: Vec<&str> = words.iter().map(String::as_str).collect();
+    let done = match words[..] {
+        ["run"] => input().and_then(|capture| output(fields::run(&capture).as_bytes())),
+        ["capture"] => input_text()
+            .and_then(|text| text::capture_of(&text))
+            .and_then(|capture| output(&capture)),
+        ["random", seed, count] => match (seed.parse(), count.parse()) {
+            (Ok(seed), Ok(count)) => output(&random::capture(seed, count)),
+            _ => return usage(),
+        },
+        ["random-cut", seed] => match seed.parse() {
+            Ok(seed) => output(&random::cut_capture(seed)),
+            Err(_) => return usage(),
+        },
+        ["tally"] => input_text()
+            .and_then(|lines| counts::counts(&lines))
+            .and_then(|counts| output(counts.as_bytes())),
+        _ => return usage(),
+    };
+    match done {
+        Ok(()) => ExitCode::SUCCESS,
+        Err(what) => {
+            eprintln!("second: {what}");
+            ExitCode::from(1)
+        }
+    }
+}
+
+fn usage() -> ExitCode {
+    eprint!("{USAGE}");
+    ExitCode::from(2)
+}
+
+fn input() -> Result<Vec<u8>, String> {
+    let mut octets = Vec::new();
+    match io::stdin().lock().read_to_end(&mut octets) {
+        Ok(_) => Ok(octets),
+        Err(why) => Err(format!("standard input: {why}")),
+    }
+}
+
+fn input_text() -> Result<String, String> {
+    String::from_utf8(input()?).map_err(|_| "standard input is not text".into())
+}
+
+fn output(octets: &[u8]) -> Result<(), String> {
+    let mut out = io::stdout().lock();
+    out.write_all(octets)
+        .and_then(|()| out.flush())
+        .map_err(|why| format!("standard output: {why}"))
+}

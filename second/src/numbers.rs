@@ -1,0 +1,221 @@
+//! Versions and sequence numbers: the ring 1 to M, the number check with its
+//! four rules, the verdict and the skipped count (D.3.1.3, Table 14).
+
+/// 01: "SEQ is 1 to M, where M = 2,147,483,647."
+pub const M: u32 = 2_147_483_647;
+
+/// 01: "SEQ is 1 to M". "V_SEQ is any 32-bit number" and needs no test.
+pub fn seq_right(seq: u32) -> bool {
+    (1..=M).contains(&seq)
+}
+
+/// 01, Joining: "the same version and a larger number". Every comparison of
+/// two sequence numbers by size is made here.
+pub fn newer(seq: u32, than: u32) -> bool {
+    seq > than
+}
+
+/// What the number check says.
+#[derive(Clone, Copy, Debug, PartialEq, Eq)]
+pub enum Check {
+    Unchecked,
+    First,
+    Restart,
+    Repeat,
+    Next,
+    Gap { skipped: u32 },
+}
+
+/// 01: "For each sender the last delivered version RV and number R are kept.
+/// In this order:
+/// 1. V_SEQ = 0 and SEQ = 1: unchecked.
+/// 2. RV = 0: first.
+/// 3. V_SEQ differs from RV: restart.
+/// 4. Let d be the remainder of R - SEQ by M, 0 to M - 1. d < N1: repeat.
+///    d = M - 1: next. Otherwise gap".
+pub fn number_check(rv: u32, r: u32, version: u32, seq: u32, n1: u16) -> Check {
+    if version == 0 && seq == 1 {
+        return Check::Unchecked;
+    }
+    if rv == 0 {
+        return Check::First;
+    }
+    if version != rv {
+        return Check::Restart;
+    }
+    let d = remainder_by_m(i64::from(r) - i64::from(seq));
+    if d < u32::from(n1) {
+        Check::Repeat
+    } else if d == M - 1 {
+        Check::Next
+    } else {
+        Check::Gap {
+            skipped: skipped(r, seq),
+        }
+    }
+}
+
+/// 01: "gap, with (SEQ - R - 1) modulo M numbers skipped."
+fn skipped(r: u32, seq: u32) -> u32 {
+    remainder_by_m(i64::from(seq) - i64::from(r) - 1)
+}
+
+/// The remainder by M, "0 to M - 1", of any difference of two numbers.
+fn remainder_by_m(difference: i64) -> u32 {
+    difference.rem_euclid(i64::from(M)) as u32
+}
+
+/// 01: "Verdicts: 1 first, 2 next, 3 restart, 4 gap, 5 unchecked, 0 where
+/// nothing is delivered."
+#[derive(Clone, Copy, Debug, PartialEq, Eq)]
+pub enum Verdict {
+    Nothing,
+    First,
+    Next,
+    Restart,
+    Gap,
+    Unchecked,
+}
+
+impl Verdict {
+    pub fn number(self) -> u8 {
+        match self {
+            Verdict::Nothing => 0,
+            Verdict::First => 1,
+            Verdict::Next => 2,
+            Verdict::Restart => 3,
+            Verdict::Gap => 4,
+            Verdict::Unchecked => 5,
+        }
+    }
+}
+
+/// The verdict and the skipped count with which a message is delivered: "A gap
+/// is delivered with its verdict." A repeat is never delivered.
+pub fn verdict(check: Check) -> (Verdict, u32) {
+    match check {
+        Check::Unchecked => (Verdict::Unchecked, 0),
+        Check::First => (Verdict::First, 0),
+        Check::Restart => (Verdict::Restart, 0),
+        Check::Next => (Verdict::Next, 0),
+        Check::Gap { skipped } => (Verdict::Gap, skipped),
+        Check::Repeat => (Verdict::Nothing, 0),
+    }
+}
+
+#[cfg(test)]
+mod tests {
+    use super::*;
+
+    /// The check of a number under the same version, rule 4.
+    fn rule_4(r: u32, seq: u32, n1: u16) -> Check {
+        number_check(5, r, 5, seq, n1)
+    }
+
+    #[test]
+    fn edges_with_n1_16_and_r_100() {
+        assert_eq!(rule_4(100, 101, 16), Check::Next);
+        assert_eq!(rule_4(100, 100, 16), Check::Repeat);
+        assert_eq!(rule_4(100, 85, 16), Check::Repeat);
+        let far = 2_147_483_630;
+        assert_eq!(rule_4(100, 84, 16), Check::Gap { skipped: far });
+        assert_eq!(rule_4(100, 103, 16), Check::Gap { skipped: 2 });
+        assert_eq!(rule_4(100, 102, 16), Check::Gap { skipped: 1 });
+    }
+
+    #[test]
+    fn edges_at_the_ring_ends() {
+        assert_eq!(rule_4(M, 1, 16), Check::Next);
+        assert_eq!(rule_4(M, 2, 16), Check::Gap { skipped: 1 });
+        assert_eq!(rule_4(M, M, 16), Check::Repeat);
+        assert_eq!(rule_4(1, M, 16), Check::Repeat);
+        assert_eq!(rule_4(M - 1, M, 16), Check::Next);
+        assert_eq!(rule_4(3, 2_147_483_635, 16), Check::Repeat);
+        // Skipped between 3 and 2147483634: 4 to 2147483633.
+        let far = 2_147_483_630;
+        assert_eq!(rule_4(3, 2_147_483_634, 16), Check::Gap { skipped: far });
+    }
+
+    #[test]
+    fn n1_at_its_own_ends() {
+        assert_eq!(rule_4(100, 100, 1), Check::Repeat);
+        assert_eq!(rule_4(100, 99, 1), Check::Gap { skipped: M - 2 });
+        assert_eq!(rule_4(2000, 977, 1024), Check::Repeat);
+        assert_eq!(rule_4(2000, 976, 1024), Check::Gap { skipped: M - 1025 });
+    }
+
+    /// Table 14 as printed: rows 1 to 5, apart from rule 4's ring.
+    fn table_14(r: i64, seq: i64, n1: i64) -> &'static str {
+        let top = 0x7fff_ffff;
+        if (r != top && r + 1 == seq) || (r == top && seq == 1) {
+            return "next";
+        }
+        let row_3 = r > n1 && r - n1 < seq && seq <= r;
+        let row_4 = r <= n1 && ((0 < seq && seq <= r) || (top - (n1 - r) < seq && seq <= top));
+        if row_3 || row_4 {
+            "repeat"
+        } else {
+            "gap"
+        }
+    }
+
+    #[test]
+    fn rule_4_is_table_14_near_every_edge() {
+        let top = i64::from(M);
+        for n1 in [1u16, 2, 16, 1024] {
+            for r in [1, 2, 15, 16, 17, 1023, 1024, 1025, 5000, M - 1024, M - 1, M] {
+                let back = i64::from(r) - i64::from(n1);
+                let edges = [1, i64::from(r), top, back, back + top];
+                let near = edges.iter().flat_map(|edge| edge - 20..=edge + 20);
+                for seq in near.filter(|seq| (1..=top).contains(seq)) {
+                    let said = match rule_4(r, seq as u32, n1) {
+                        Check::Next => "next",
+                        Check::Repeat => "repeat",
+                        Check::Gap { .. } => "gap",
+                        other => panic!("rule 4 said {other:?}"),
+                    };
+                    let printed = table_14(r.into(), seq, n1.into());
+                    assert_eq!(said, printed, "R {r}, SEQ {seq}, N1 {n1}");
+                }
+            }
+        }
+    }
+
+    #[test]
+    fn the_four_rules_in_their_order() {
+        // Rule 1 before rules 2, 3 and 4 (R 1 under version 0 is a repeat of 1).
+        assert_eq!(number_check(0, 0, 0, 1, 16), Check::Unchecked);
+        assert_eq!(number_check(5, 100, 0, 1, 16), Check::Unchecked);
+        // Both parts of rule 1 are needed.
+        assert_eq!(number_check(0, 0, 0, 2, 16), Check::First);
+        assert_eq!(number_check(0, 0, 1, 1, 16), Check::First);
+        // Rule 2 before rule 3, and before rule 4 under version 0.
+        assert_eq!(number_check(0, 100, 5, 100, 16), Check::First);
+        assert_eq!(number_check(0, 100, 0, 100, 16), Check::First);
+        // Rule 3 before rule 4, for version 0 too.
+        assert_eq!(number_check(5, 100, 6, 100, 16), Check::Restart);
+        assert_eq!(number_check(5, 100, 4, 101, 16), Check::Restart);
+        assert_eq!(number_check(5, 100, 0, 100, 16), Check::Restart);
+        assert_eq!(number_check(u32::MAX, 7, u32::MAX, 8, 16), Check::Next);
+    }
+
+    #[test]
+    fn seq_and_newer_on_both_sides() {
+        assert!(!seq_right(0) && seq_right(1) && seq_right(M) && !seq_right(M + 1));
+        assert!(newer(2, 1) && !newer(1, 1) && !newer(1, 2));
+        assert!(newer(M, 1) && !newer(1, M));
+    }
+
+    #[test]
+    fn verdicts_bear_the_papers_numbers() {
+        let gap = Check::Gap { skipped: 2 };
+        let checks = [Check::First, Check::Next, Check::Restart, gap];
+        for (number, check) in (1..).zip(checks) {
+            assert_eq!(verdict(check).0.number(), number);
+        }
+        assert_eq!(verdict(Check::Unchecked).0.number(), 5);
+        assert_eq!(verdict(Check::Repeat).0.number(), 0);
+        assert_eq!(verdict(gap).1, 2);
+        assert_eq!(verdict(Check::Next).1, 0);
+    }
+}

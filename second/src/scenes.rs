@@ -1,0 +1,858 @@
+//! The scenes of `second random`: each writes a few fields that lead the
+//! receiver to some edge of 01, whatever state it is in.
+
+use crate::alive;
+use crate::cut::{cut_piece, pieces, HeaderValues};
+use crate::fields::{setup_contents, TAG_ALIVE, TAG_CLOCK, TAG_MESSAGE, TAG_SETUP};
+use crate::header::{self, Head, Place, HEADER};
+use crate::numbers::M;
+use crate::octets;
+use crate::random::{Author, Dice};
+use crate::state::{Sender, Setup, CLOCK_MOST};
+
+/// One scene.
+pub type Scene = fn(&mut Author);
+
+/// The deck. A scene that stands twice is played twice as often.
+pub const SCENES: [Scene; 32] = [
+    new_setup,
+    new_setup,
+    refused_setup,
+    short_messages,
+    joined_message,
+    two_senders,
+    two_senders,
+    twelve_pieces,
+    sixty_four_pieces,
+    gap,
+    restart,
+    unchecked,
+    version_nought,
+    window_edges,
+    ring_ends,
+    newer_drops,
+    other_version_drops,
+    older_refused,
+    unlike_open,
+    held_twice,
+    dropped_by_clock,
+    dead_by_clock,
+    clock_edges,
+    clock_far,
+    alive_modes,
+    damaged_alive,
+    damaged_pdu,
+    test_message,
+    stranger,
+    length_edges,
+    impossible_cut,
+    noise,
+];
+
+/// A message that some sender means to send.
+#[derive(Clone)]
+struct Plan {
+    values: HeaderValues,
+    n: usize,
+    u: usize,
+}
+
+impl Plan {
+    fn pieces(&self) -> usize {
+        pieces(self.n, self.u)
+    }
+
+    fn pdu(&self, piece: usize) -> Vec<u8> {
+        let message: Vec<u8> = (0..self.n).map(|i| (i % 251) as u8).collect();
+        let mut buffer = vec![0; 1_460];
+        let answer = cut_piece(&self.values, &message, self.u, piece, &mut buffer);
+        assert_eq!(answer.number, 0, "scenes plan messages that can be cut");
+        buffer.truncate(answer.length);
+        buffer
+    }
+}
+
+/// The number `steps` after `seq` on the ring 1 to M.
+fn after(seq: u32, steps: u64) -> u32 {
+    ((u64::from(seq) - 1 + steps) % u64::from(M) + 1) as u32
+}
+
+/// The number `steps` before `seq` on the ring 1 to M.
+fn before(seq: u32, steps: u64) -> u32 {
+    after(seq, u64::from(M) - steps)
+}
+
+fn put(pdu: &mut [u8], place: Place, number: u64) {
+    octets::write(pdu, place.start, place.size, number);
+}
+
+fn get(pdu: &[u8], place: Place) -> u64 {
+    octets::read(pdu, place.start, place.size)
+}
+
+// ---- what the scenes share ----
+
+fn any_seq(dice: &mut Dice) -> u32 {
+    let far = dice.between(1, M.into()) as u32;
+    dice.one_of(&[1, 2, 3, 100, 5_000, far, far, far, M - 1, M])
+}
+
+/// A version that is not 0, nor the sender's last or open one.
+fn fresh_version(author: &mut Author, at: usize) -> u32 {
+    let sender = &author.run.receiver.senders[at];
+    let taken = [0, sender.last_version, sender.message.version];
+    loop {
+        let any = author.dice.throw() as u32;
+        let version = author.dice.one_of(&[1, 2, 5, 6, u32::MAX, any]);
+        if !taken.contains(&version) {
+            return version;
+        }
+    }
+}
+
+/// A registered sender, by its place in the table.
+fn any_sender(author: &mut Author) -> usize {
+    let count = author.run.receiver.senders.len() as u64;
+    author.dice.below(count.max(1)) as usize
+}
+
+fn sender_at(author: &Author, at: usize) -> &Sender {
+    &author.run.receiver.senders[at]
+}
+
+fn plan(author: &mut Author, at: usize, version: u32, seq: u32) -> Plan {
+    let sender = sender_at(author, at);
+    let (field, node) = (sender.field, sender.node);
+    let dice = &mut author.dice;
+    let values = HeaderValues {
+        field,
+        node,
+        da: dice.one_of(&[0x0001_0001, 0, u32::MAX]),
+        version,
+        seq,
+        m_ctl: dice.one_of(&[0x8000_0000, 0, u32::MAX]),
+        tcd: dice.one_of(&[1, 2, 1_000, 59_999]),
+        mode: header::ONLINE,
+        pri: dice.below(8) as u8,
+    };
+    Plan {
+        values,
+        n: 10,
+        u: 256,
+    }
+}
+
+/// The same plan, with a message of one piece.
+fn short(author: &mut Author, plan: Plan) -> Plan {
+    let any = author.dice.below(1_397) as usize;
+    let n = author
+        .dice
+        .one_of(&[0, 1, 255, 256, 257, 1_395, 1_396, any, any]);
+    Plan {
+        n,
+        u: 1_396,
+        ..plan
+    }
+}
+
+/// The same plan, with a message of 2 to 6 pieces.
+fn several(author: &mut Author, plan: Plan) -> Plan {
+    let dice = &mut author.dice;
+    let any = dice.between(256, 1_396);
+    let u = dice.one_of(&[256, 257, 1_332, 1_395, 1_396, any]);
+    let whole = dice.between(1, 5) * u;
+    let rest = dice.between(1, u);
+    let n = whole + dice.one_of(&[1, 2, rest, u - 1, u]);
+    Plan {
+        n: n as usize,
+        u: u as usize,
+        ..plan
+    }
+}
+
+/// One piece or several.
+fn of_any_size(author: &mut Author, plan: Plan) -> Plan {
+    if author.dice.one_in(2) {
+        short(author, plan)
+    } else {
+        several(author, plan)
+    }
+}
+
+fn send(author: &mut Author, plan: &Plan, piece: usize) {
+    author.write(TAG_MESSAGE, &plan.pdu(piece));
+}
+
+/// The pieces in random order, some of them twice.
+fn order(dice: &mut Dice, pieces: usize) -> Vec<usize> {
+    let mut order: Vec<usize> = (1..=pieces).collect();
+    match dice.below(4) {
+        0 => (),
+        1 => order.reverse(),
+        _ => dice.shuffle(&mut order),
+    }
+    for _ in 0..dice.below(4) {
+        let again = dice.between(1, pieces as u64) as usize;
+        let at = dice.below(order.len() as u64 + 1) as usize;
+        order.insert(at, again);
+    }
+    order
+}
+
+fn send_all(author: &mut Author, plan: &Plan) {
+    for piece in order(&mut author.dice, plan.pieces()) {
+        send(author, plan, piece);
+    }
+}
+
+/// Sends some pieces of a message of several, but not all: it stays open.
+fn send_some(author: &mut Author, plan: &Plan) -> Vec<usize> {
+    let mut pieces: Vec<usize> = (1..=plan.pieces()).collect();
+    author.dice.shuffle(&mut pieces);
+    let some = author.dice.between(1, plan.pieces() as u64 - 1) as usize;
+    for piece in &pieces[..some] {
+        send(author, plan, *piece);
+    }
+    pieces
+}
+
+/// A sender with a last version not 0 and nothing open.
+fn settled(author: &mut Author) -> usize {
+    let at = any_sender(author);
+    let sender = sender_at(author, at);
+    if sender.open || sender.last_version == 0 {
+        let version = fresh_version(author, at);
+        let seq = any_seq(&mut author.dice);
+        let plan = plan(author, at, version, seq);
+        let plan = short(author, plan);
+        send(author, &plan, 1);
+    }
+    at
+}
+
+/// A plan under a settled sender's last version, `steps` after its last number.
+fn following(author: &mut Author, at: usize, steps: u64) -> Plan {
+    let sender = sender_at(author, at);
+    let (version, last) = (sender.last_version, sender.last_number.max(1));
+    plan(author, at, version, after(last, steps))
+}
+
+fn tick(author: &mut Author, ms: u64) {
+    let now = author.run.receiver.clock;
+    author.write(TAG_CLOCK, &now.saturating_add(ms).to_be_bytes());
+}
+
+// ---- setups ----
+
+fn good_setup(dice: &mut Dice) -> Setup {
+    let mut senders = Vec::new();
+    for _ in 0..dice.between(1, 4) {
+        let pair = (dice.one_of(&[1, 2, 255]), dice.one_of(&[1, 2, 7, 9, 4_095]));
+        if !senders.contains(&pair) {
+            senders.push(pair);
+        }
+    }
+    Setup {
+        mode: u8::from(dice.one_in(5)),
+        n1: dice.one_of(&[1, 2, 16, 16, 16, 100, 1_024]),
+        t: dice.one_of(&[1, 2, 1_000, 15_000, 15_000, 600_000]),
+        senders,
+    }
+}
+
+pub fn new_setup(author: &mut Author) {
+    let setup = good_setup(&mut author.dice);
+    author.write(TAG_SETUP, &setup_contents(&setup));
+}
+
+fn refused_setup(author: &mut Author) {
+    let dice = &mut author.dice;
+    let mut setup = good_setup(dice);
+    for _ in 0..dice.between(1, 2) {
+        let last = setup.senders.len() - 1;
+        match dice.below(6) {
+            0 => setup.mode = dice.one_of(&[2, 3, 255]),
+            1 => setup.n1 = dice.one_of(&[0, 1_025, 65_535]),
+            2 => setup.t = dice.one_of(&[0, 600_001, u32::MAX]),
+            3 => setup.senders[last].0 = 0,
+            4 => setup.senders[last].1 = dice.one_of(&[0, 4_096, 65_535]),
+            _ if last < 3 => setup.senders.push(setup.senders[0]),
+            _ => setup.senders[last] = setup.senders[0],
+        }
+    }
+    author.write(TAG_SETUP, &setup_contents(&setup));
+}
+
+/// Fields that meet the empty state.
+pub fn before_setup(author: &mut Author) {
+    tick(author, 5);
+    author.write(TAG_MESSAGE, &[]);
+    author.write(TAG_MESSAGE, &a_pdu_of_nobody());
+    refused_setup(author);
+    tick(author, 0);
+    author.write(TAG_CLOCK, &0u64.to_be_bytes());
+    let alive = alive_pdu(&mut author.dice, (1, 7), 1, 0, 128);
+    author.write(TAG_ALIVE, &alive);
+}
+
+fn a_pdu_of_nobody() -> Vec<u8> {
+    let head = Head {
+        ml: 64,
+        field: 1,
+        node: 7,
+        version: 5,
+        seq: 100,
+        tcd: 1,
+        cbn: 1,
+        tbn: 1,
+        bsize: 64,
+        ..Head::fixed()
+    };
+    let mut pdu = vec![0; HEADER];
+    header::write_head(&head, &mut pdu);
+    pdu
+}
+
+// ---- messages that are joined and delivered ----
+
+fn short_messages(author: &mut Author) {
+    let at = settled(author);
+    for _ in 0..author.dice.between(1, 4) {
+        let next = following(author, at, 1);
+        let next = short(author, next);
+        send(author, &next, 1);
+    }
+}
+
+fn joined_message(author: &mut Author) {
+    let at = settled(author);
+    let next = following(author, at, 1);
+    let next = several(author, next);
+    send_all(author, &next);
+    let late = author.dice.between(1, next.pieces() as u64) as usize;
+    send(author, &next, late);
+}
+
+/// Two messages of two senders, their pieces in one another's midst, with clock
+/// calls between them.
+fn two_senders(author: &mut Author) {
+    let (one, other) = (settled(author), settled(author));
+    let mut sent: Vec<(Plan, usize)> = Vec::new();
+    for at in [one, other] {
+        let next = following(author, at, 1);
+        let next = several(author, next);
+        let order = order(&mut author.dice, next.pieces());
+        let mut place = 0;
+        for piece in order {
+            place = author.dice.between(place, sent.len() as u64);
+            sent.insert(place as usize, (next.clone(), piece));
+        }
+    }
+    for (plan, piece) in sent {
+        if author.dice.one_in(6) {
+            let ms = author.dice.below(400);
+            tick(author, ms);
+        }
+        send(author, &plan, piece);
+    }
+}
+
+fn twelve_pieces(author: &mut Author) {
+    longest(author, 1_396);
+}
+
+fn sixty_four_pieces(author: &mut Author) {
+    if author.dice.one_in(2) {
+        longest(author, 256);
+    }
+}
+
+fn longest(author: &mut Author, u: usize) {
+    let at = settled(author);
+    let next = following(author, at, 1);
+    let next = Plan {
+        n: 16_384,
+        u,
+        ..next
+    };
+    send_all(author, &next);
+}
+
+// ---- the number check ----
+
+fn gap(author: &mut Author) {
+    let at = settled(author);
+    let far = author.dice.between(2, u64::from(M) - 2_000);
+    let steps = author.dice.one_of(&[2, 3, 4, far]);
+    let ahead = following(author, at, steps);
+    let ahead = of_any_size(author, ahead);
+    send_all(author, &ahead);
+}
+
+fn restart(author: &mut Author) {
+    let at = settled(author);
+    let version = fresh_version(author, at);
+    let seq = any_seq(&mut author.dice);
+    let anew = plan(author, at, version, seq);
+    let anew = of_any_size(author, anew);
+    send_all(author, &anew);
+}
+
+/// V_SEQ 0 with SEQ 1, again and again.
+fn unchecked(author: &mut Author) {
+    let at = any_sender(author);
+    for _ in 0..author.dice.between(1, 3) {
+        let free = plan(author, at, 0, 1);
+        let free = of_any_size(author, free);
+        send_all(author, &free);
+    }
+    let next = following(author, at, 1);
+    send(author, &next, 1);
+}
+
+/// V_SEQ 0 with SEQ not 1: the last version becomes 0, the next one is first.
+fn version_nought(author: &mut Author) {
+    let at = settled(author);
+    for seq in [2, 2, 7, M] {
+        let nought = plan(author, at, 0, seq);
+        send(author, &nought, 1);
+    }
+    let version = fresh_version(author, at);
+    let first = plan(author, at, version, 7);
+    send(author, &first, 1);
+}
+
+/// The repeats' window, on both sides of both its ends.
+fn window_edges(author: &mut Author) {
+    let at = settled(author);
+    let n1 = u64::from(author.run.receiver.n1);
+    for _ in 0..4 {
+        let sender = sender_at(author, at);
+        let (version, last) = (sender.last_version, sender.last_number.max(1));
+        let edges = [
+            last,
+            before(last, n1 - 1),
+            before(last, n1),
+            before(last, n1 + 1),
+            after(last, 1),
+            after(last, 2),
+        ];
+        let seq = author.dice.one_of(&edges);
+        let edge = plan(author, at, version, seq);
+        let edge = of_any_size(author, edge);
+        send(author, &edge, 1);
+    }
+}
+
+/// Numbers on both sides of the ring's ends.
+fn ring_ends(author: &mut Author) {
+    let at = settled(author);
+    let version = fresh_version(author, at);
+    let start = author.dice.one_of(&[1, 2, 3, M - 2, M - 1, M]);
+    let anew = plan(author, at, version, start);
+    send(author, &anew, 1);
+    for _ in 0..author.dice.between(2, 6) {
+        let steps = author
+            .dice
+            .one_of(&[1, 1, 1, 2, 3, u64::from(M) - 1, u64::from(M) - 4]);
+        let near = following(author, at, steps);
+        let near = of_any_size(author, near);
+        send_all(author, &near);
+    }
+}
+
+// ---- drops and refusals beside an open message ----
+
+/// Opens a message of several pieces and leaves it open.
+fn open_one(author: &mut Author, steps: u64) -> (usize, Plan, Vec<usize>) {
+    let at = settled(author);
+    let opened = following(author, at, steps);
+    let opened = several(author, opened);
+    let pieces = send_some(author, &opened);
+    (at, opened, pieces)
+}
+
+fn newer_drops(author: &mut Author) {
+    let (_, opened, pieces) = open_one(author, 1);
+    let mut newer = opened.clone();
+    newer.values.seq = after(newer.values.seq, 1);
+    let newer = of_any_size(author, newer);
+    send(author, &newer, 1);
+    send(author, &opened, pieces[0]);
+    send_all(author, &newer);
+}
+
+fn other_version_drops(author: &mut Author) {
+    let (at, opened, pieces) = open_one(author, 1);
+    let mut other = opened.clone();
+    other.values.version = fresh_version(author, at);
+    if author.dice.one_in(3) {
+        (other.values.version, other.values.seq) = (0, 1);
+    }
+    let other = of_any_size(author, other);
+    send(author, &other, 1);
+    send(author, &opened, pieces[0]);
+    send_all(author, &opened);
+}
+
+fn older_refused(author: &mut Author) {
+    let (_, opened, pieces) = open_one(author, 10);
+    for back in [1, 5, 9, 10] {
+        let mut older = opened.clone();
+        older.values.seq = before(older.values.seq, back);
+        let older = of_any_size(author, older);
+        send(author, &older, 1);
+    }
+    for piece in pieces {
+        send(author, &opened, piece);
+    }
+}
+
+/// The open message's version and number, but another code or cut.
+fn unlike_open(author: &mut Author) {
+    let (_, opened, _) = open_one(author, 1);
+    for _ in 0..3 {
+        let mut unlike = opened.clone();
+        match author.dice.below(5) {
+            0 => unlike.values.tcd = 3,
+            1 if unlike.n % unlike.u > 1 => unlike.n -= 1,
+            2 => unlike.n = (unlike.n + unlike.u).min(16_384),
+            3 => (unlike.n, unlike.u) = (700, 300),
+            _ => unlike.n = 100,
+        }
+        let piece = author.dice.between(1, unlike.pieces() as u64);
+        send(author, &unlike, piece as usize);
+    }
+    send_all(author, &opened);
+}
+
+/// A piece once more, with other values that nobody compares.
+fn held_twice(author: &mut Author) {
+    let (_, mut opened, pieces) = open_one(author, 1);
+    opened.values.pri = 7;
+    opened.values.da ^= 1;
+    opened.values.m_ctl ^= 1;
+    send(author, &opened, pieces[0]);
+    for piece in pieces {
+        send(author, &opened, piece);
+    }
+}
+
+// ---- clock and alive signals ----
+
+/// Both sides of the drop time, sometimes with a piece that sets the stamp anew.
+fn dropped_by_clock(author: &mut Author) {
+    let t = u64::from(author.run.receiver.t);
+    let (_, opened, pieces) = open_one(author, 1);
+    tick(author, t - 1);
+    if author.dice.one_in(2) {
+        let unheld = pieces[pieces.len() - 1];
+        send(author, &opened, unheld);
+        tick(author, t - 1);
+    }
+    tick(author, 1);
+    tick(author, 0);
+    send(author, &opened, pieces[0]);
+}
+
+/// Both sides of a sender's time.
+fn dead_by_clock(author: &mut Author) {
+    let at = any_sender(author);
+    let any = author.dice.between(3, 200);
+    let timeout = author.dice.one_of(&[0, 1, 2, 60, any]);
+    hear(author, at, 1, timeout as u32);
+    let ms = 1_000 * timeout;
+    if ms > 0 {
+        let early = author.dice.below(ms);
+        tick(author, early);
+        if author.dice.one_in(3) {
+            hear(author, at, 1, timeout as u32);
+            tick(author, ms - 1);
+        } else {
+            tick(author, ms - 1 - early);
+        }
+        tick(author, 1);
+    } else {
+        tick(author, 0);
+    }
+}
+
+fn clock_edges(author: &mut Author) {
+    let ms = author.dice.between(1, 100);
+    tick(author, ms);
+    for _ in 0..3 {
+        let now = author.run.receiver.clock;
+        let back = author.dice.below(now.max(1));
+        let edges = [
+            now,
+            now.saturating_sub(1),
+            back,
+            0,
+            CLOCK_MOST + 1,
+            u64::MAX,
+        ];
+        let ms = author.dice.one_of(&edges);
+        author.write(TAG_CLOCK, &ms.to_be_bytes());
+    }
+}
+
+/// The clock's limit, and a setup that brings it back to 0.
+fn clock_far(author: &mut Author) {
+    if !author.dice.one_in(3) {
+        return;
+    }
+    let at = any_sender(author);
+    let timeout = author
+        .dice
+        .one_of(&[1_099_511_627, 1_099_511_628, u32::MAX]);
+    hear(author, at, 1, timeout);
+    for ms in [CLOCK_MOST - 777, CLOCK_MOST + 1, CLOCK_MOST, CLOCK_MOST + 1] {
+        author.write(TAG_CLOCK, &ms.to_be_bytes());
+    }
+    new_setup(author);
+}
+
+fn alive_pdu(dice: &mut Dice, from: (u8, u16), mode: u8, timeout: u32, size: u16) -> Vec<u8> {
+    let mut pdu: Vec<u8> = (0..size).map(|_| dice.throw() as u8).collect();
+    let head = Head {
+        ml: size.into(),
+        field: from.0,
+        node: from.1,
+        da: dice.one_of(&[0, 0x0001_0000, 0xffff_0000]),
+        version: dice.one_of(&[0, 5]),
+        seq: dice.one_of(&[0, 1, 100, M, M + 1, u32::MAX]),
+        m_ctl: 0x8000_0000,
+        tcd: 60_003,
+        mode: dice.below(2) as u16,
+        pri: dice.below(8) as u8,
+        cbn: 1,
+        tbn: 1,
+        bsize: size,
+        ..Head::fixed()
+    };
+    header::write_head(&head, &mut pdu);
+    put(&mut pdu, alive::AL_TM_OUT, timeout.into());
+    put(&mut pdu, alive::AL_MODE, mode.into());
+    put(&mut pdu, alive::AL_PROTOCOL, 4);
+    put(&mut pdu, alive::AL_VER, 1);
+    pdu
+}
+
+fn good_alive(author: &mut Author, at: usize, mode: u8, timeout: u32) -> Vec<u8> {
+    let sender = sender_at(author, at);
+    let from = (sender.field, sender.node);
+    let any = author.dice.between(128, 1_472) as u16;
+    let size = author.dice.one_of(&[128, 128, 128, 129, 1_472, any]);
+    alive_pdu(&mut author.dice, from, mode, timeout, size)
+}
+
+fn hear(author: &mut Author, at: usize, mode: u8, timeout: u32) {
+    let pdu = good_alive(author, at, mode, timeout);
+    author.write(TAG_ALIVE, &pdu);
+}
+
+fn alive_modes(author: &mut Author) {
+    for _ in 0..4 {
+        let at = any_sender(author);
+        let mode = author.dice.between(1, 3) as u8;
+        let timeout = author.dice.one_of(&[0, 1, 60, u32::MAX]);
+        hear(author, at, mode, timeout);
+        if author.dice.one_in(3) {
+            let ms = author.dice.one_of(&[0, 999, 1_000, 60_000]);
+            tick(author, ms);
+        }
+    }
+}
+
+fn damaged_alive(author: &mut Author) {
+    for _ in 0..4 {
+        let at = any_sender(author);
+        let mut pdu = good_alive(author, at, 1, 60);
+        for _ in 0..author.dice.one_of(&[1, 1, 2]) {
+            damage_alive(&mut author.dice, &mut pdu);
+        }
+        author.write(TAG_ALIVE, &pdu);
+    }
+}
+
+/// Damages one thing that an alive call looks at.
+fn damage_alive(dice: &mut Dice, pdu: &mut Vec<u8>) {
+    let long = pdu.len() as u64;
+    match dice.below(9) {
+        0 => put(pdu, alive::AL_MODE, dice.one_of(&[0, 4, 255])),
+        1 => put(pdu, alive::AL_PROTOCOL, dice.one_of(&[0, 3, 5])),
+        2 => put(pdu, alive::AL_VER, dice.one_of(&[0, 2])),
+        3 => put(pdu, header::DA, dice.one_of(&[1, 256, 0x0001_0001])),
+        4 => put(pdu, header::ML, dice.one_of(&[long ^ 1, long + 1, 0])),
+        5 => put(pdu, header::CBN, dice.one_of(&[0, 2])),
+        6 => put(pdu, header::TBN, dice.one_of(&[0, 2])),
+        7 => put(
+            pdu,
+            header::TCD,
+            dice.one_of(&[0, 1, 60_002, 60_004, 65_535]),
+        ),
+        _ => match dice.below(3) {
+            0 => resize(pdu, dice.one_of(&[0, 64, 127, 1_473, 2_000])),
+            1 => pdu.push(0),
+            _ => damage_header(dice, pdu),
+        },
+    }
+}
+
+/// Another length, with BSIZE and ML to match it.
+fn resize(pdu: &mut Vec<u8>, length: usize) {
+    pdu.resize(length, 0);
+    put(pdu, header::BSIZE, length as u64);
+    put(pdu, header::ML, length as u64);
+}
+
+// ---- damaged and strange PDUs ----
+
+/// A PDU that would be stored or delivered.
+fn good_pdu(author: &mut Author) -> Vec<u8> {
+    let at = settled(author);
+    let next = following(author, at, 1);
+    let next = of_any_size(author, next);
+    let piece = author.dice.between(1, next.pieces() as u64);
+    next.pdu(piece as usize)
+}
+
+fn damaged_pdu(author: &mut Author) {
+    for _ in 0..6 {
+        let mut pdu = good_pdu(author);
+        for _ in 0..author.dice.one_of(&[1, 1, 2]) {
+            damage_header(&mut author.dice, &mut pdu);
+        }
+        author.write(TAG_MESSAGE, &pdu);
+    }
+}
+
+/// Damages one place of the header: a chosen wrong value, or one bit.
+fn damage_header(dice: &mut Dice, pdu: &mut [u8]) {
+    let wrong = [
+        (header::SEQ, 0),
+        (header::SEQ, u64::from(M) + 1),
+        (header::SEQ, u64::from(u32::MAX)),
+        (header::TCD, 0),
+        (header::TCD, 60_000),
+        (header::TCD, 60_003),
+        (header::TCD, 65_535),
+        (header::MODE, 2),
+        (header::MODE, 256),
+        (header::PVER, 0),
+        (header::PVER, 2),
+        (header::PRI, 8),
+        (header::PRI, 255),
+    ];
+    if dice.one_in(3) {
+        let (place, number) = dice.one_of(&wrong);
+        put(pdu, place, number);
+        return;
+    }
+    let place = dice.one_of(&header::PLACES);
+    let at = place.start + dice.below(place.size as u64) as usize;
+    let bit = 1 << dice.below(8);
+    if let Some(octet) = pdu.get_mut(at) {
+        *octet ^= bit;
+    }
+}
+
+/// Test messages: refused by an online node, taken by a test node.
+fn test_message(author: &mut Author) {
+    let at = settled(author);
+    let mut next = following(author, at, 1);
+    next.values.mode = header::TEST;
+    let next = of_any_size(author, next);
+    send_all(author, &next);
+}
+
+/// PDUs from senders that are not registered.
+fn stranger(author: &mut Author) {
+    for _ in 0..2 {
+        let mut pdu = good_pdu(author);
+        let at = any_sender(author);
+        let mut signal = good_alive(author, at, 1, 60);
+        for pdu in [&mut pdu, &mut signal] {
+            let node = get(pdu, header::SA_NODE);
+            match author.dice.below(4) {
+                0 => put(pdu, header::SA_FIELD, author.dice.one_of(&[0, 3, 254])),
+                1 => put(pdu, header::SA_NODE, author.dice.one_of(&[0, 3, 65_535])),
+                2 => put(pdu, header::SA_NODE, node ^ 0x1000),
+                _ => put(pdu, header::SA_DOMAIN, 1),
+            }
+        }
+        author.write(TAG_MESSAGE, &pdu);
+        author.write(TAG_ALIVE, &signal);
+    }
+}
+
+/// Lengths on both sides of their limits, and unlike BSIZE.
+fn length_edges(author: &mut Author) {
+    for _ in 0..4 {
+        let mut pdu = good_pdu(author);
+        match author.dice.below(4) {
+            0 => resize(&mut pdu, author.dice.one_of(&[64, 1_460, 1_461, 5_000])),
+            1 => pdu.truncate(author.dice.one_of(&[0, 1, 59, 60, 63])),
+            2 => pdu.push(0),
+            _ => {
+                pdu.pop();
+            }
+        }
+        author.write(TAG_MESSAGE, &pdu);
+    }
+}
+
+/// Cuts on both sides of what is possible.
+fn impossible_cut(author: &mut Author) {
+    for _ in 0..4 {
+        let mut pdu = good_pdu(author);
+        let (ml, tbn) = (get(&pdu, header::ML), get(&pdu, header::TBN));
+        let dice = &mut author.dice;
+        match dice.below(6) {
+            0 => put(&mut pdu, header::CBN, dice.one_of(&[0, tbn + 1, 255])),
+            1 => put(
+                &mut pdu,
+                header::TBN,
+                dice.one_of(&[0, tbn - 1, tbn + 1, 65, 255]),
+            ),
+            2 => put(
+                &mut pdu,
+                header::ML,
+                dice.one_of(&[0, 63, 64, 16_449, u32::MAX.into()]),
+            ),
+            3 => put(&mut pdu, header::ML, dice.one_of(&[ml - 1, ml + 1])),
+            4 => other_length(&mut pdu, dice.one_of(&[64, 65, 319, 320, 1_460])),
+            _ => {
+                let p = get(&pdu, header::BSIZE) - 64;
+                let n = dice.one_of(&[tbn * p, tbn * p + 1, (tbn - 1) * p, (tbn - 1) * p + 1]);
+                put(&mut pdu, header::ML, n + 64);
+            }
+        }
+        author.write(TAG_MESSAGE, &pdu);
+    }
+}
+
+/// Another length, with BSIZE to match it.
+fn other_length(pdu: &mut Vec<u8>, length: usize) {
+    pdu.resize(length, 0);
+    put(pdu, header::BSIZE, length as u64);
+}
+
+/// Random octets, or a good PDU with some octets of its header changed.
+fn noise(author: &mut Author) {
+    for _ in 0..3 {
+        let mut pdu = good_pdu(author);
+        let dice = &mut author.dice;
+        if dice.one_in(3) {
+            let length = dice.below(200);
+            pdu = (0..length).map(|_| dice.throw() as u8).collect();
+        } else {
+            for _ in 0..dice.between(1, 3) {
+                let at = dice.below(64) as usize;
+                pdu[at] = dice.throw() as u8;
+            }
+        }
+        let tag = dice.one_of(&[TAG_MESSAGE, TAG_MESSAGE, TAG_ALIVE]);
+        author.write(tag, &pdu);
+    }
+}

@@ -1,0 +1,484 @@
+//! The receiver's state: setup, the empty state, and the limits that number 9
+//! asks about. The fields are public so that a test can damage them.
+
+use crate::answers::STORED;
+use crate::cut;
+use crate::header::{self, Code};
+use crate::numbers;
+
+/// 01: "The storage is exactly 16,384 octets for each sender, in table order."
+pub const AREA: usize = 16_384;
+/// 01: "1 to 16 senders".
+pub const SENDERS_MOST: usize = 16;
+/// 01: "whole ms, 0 to 1,099,511,627,776".
+pub const CLOCK_MOST: u64 = 1_099_511_627_776;
+
+/// 01: "A sender has at most one open message, kept with V_SEQ, SEQ, TCD, n,
+/// TBN, u and a 64-bit map of pieces held, piece c at bit c - 1, bit 0 lowest."
+/// The stamp is the clock of the fragment stored last.
+#[derive(Clone, Debug, Default, PartialEq, Eq)]
+pub struct OpenMessage {
+    pub version: u32,
+    pub seq: u32,
+    pub tcd: u16,
+    pub n: u16,
+    pub tbn: u8,
+    pub u: u16,
+    pub map: u64,
+    pub stamp: u64,
+}
+
+/// One sender of the table. 01: "The record of a message not open, the stamp
+/// and al_tm_out of a sender not alive [...] are written 0 and never looked at."
+#[derive(Clone, Debug, Default, PartialEq, Eq)]
+pub struct Sender {
+    pub field: u8,
+    pub node: u16,
+    /// RV, "the last delivered version".
+    pub last_version: u32,
+    /// R, the last delivered number.
+    pub last_number: u32,
+    pub open: bool,
+    pub message: OpenMessage,
+    pub alive: bool,
+    pub alive_stamp: u64,
+    pub al_tm_out: u32,
+}
+
+impl Sender {
+    /// "nothing is then open", and the record is written 0.
+    pub fn close(&mut self) {
+        self.open = false;
+        self.message = OpenMessage::default();
+    }
+
+    /// "dead from then on", and the stamp and al_tm_out are written 0.
+    pub fn die(&mut self) {
+        self.alive = false;
+        self.alive_stamp = 0;
+        self.al_tm_out = 0;
+    }
+}
+
+/// The whole state of one raft or shore desk.
+#[derive(Clone, Debug, PartialEq, Eq)]
+pub struct Receiver {
+    pub test: bool,
+    pub n1: u16,
+    pub t: u32,
+    pub clock: u64,
+    pub senders: Vec<Sender>,
+}
+
+impl Receiver {
+    /// 01: "An empty state, with no senders, is what a refused setup returns
+    /// (online, N1 1, T 1)".
+    pub fn empty() -> Receiver {
+        Receiver {
+            test: false,
+            n1: 1,
+            t: 1,
+            clock: 0,
+            senders: Vec::new(),
+        }
+    }
+
+    /// The sender's place in the table, if it is registered.
+    pub fn place_of(&self, field: u8, node: u16) -> Option<usize> {
+        self.senders
+            .iter()
+            .position(|sender| (sender.field, sender.node) == (field, node))
+    }
+}
+
+/// What setup takes: "the node's mode (online or test), N1 (1 to 1,024), the
+/// drop time T in ms (1 to 600,000) and 1 to 16 senders, each a data field and
+/// a node".
+#[derive(Clone, Debug, PartialEq, Eq)]
+pub struct Setup {
+    /// "0 online, 1 test, any other meets 10".
+    pub mode: u8,
+    pub n1: u16,
+    pub t: u32,
+    pub senders: Vec<(u8, u16)>,
+}
+
+/// Setup. "10 | setup outside its limits | empty state".
+pub fn setup(setup: &Setup) -> (u8, Receiver) {
+    if !setup_right(setup) {
+        return (10, Receiver::empty());
+    }
+    let receiver = Receiver {
+        test: setup.mode == 1,
+        n1: setup.n1,
+        t: setup.t,
+        clock: 0,
+        senders: setup.senders.iter().map(unheard).collect(),
+    };
+    (STORED, receiver)
+}
+
+/// 01: "At setup the clock is 0, nobody is heard, nothing is open and every
+/// last version and number is 0."
+fn unheard(&(field, node): &(u8, u16)) -> Sender {
+    Sender {
+        field,
+        node,
+        ..Sender::default()
+    }
+}
+
+fn setup_right(setup: &Setup) -> bool {
+    setup.mode <= 1 && n1_right(setup.n1) && t_right(setup.t) && senders_right(&setup.senders)
+}
+
+/// 01: "N1 (1 to 1,024)".
+fn n1_right(n1: u16) -> bool {
+    (1..=1_024).contains(&n1)
+}
+
+/// 01: "the drop time T in ms (1 to 600,000)".
+fn t_right(t: u32) -> bool {
+    (1..=600_000).contains(&t)
+}
+
+/// 01: "1 to 16 senders, each a data field and a node, no pair twice"; "Data
+/// field numbers (1 to 255) and node numbers (1 to 4,095)".
+fn senders_right(senders: &[(u8, u16)]) -> bool {
+    let each_right = senders
+        .iter()
+        .all(|(field, node)| *field >= 1 && (1..=4_095).contains(node));
+    let no_pair_twice = senders
+        .iter()
+        .enumerate()
+        .all(|(i, pair)| !senders[..i].contains(pair));
+    (1..=SENDERS_MOST).contains(&senders.len()) && each_right && no_pair_twice
+}
+
+/// Whether the state is inside the limits; where it is not, 9 is given: "a
+/// state with a setting, sender, time, last number, open SEQ or open code
+/// outside this paper's limits, a stamp after the clock, last number 0 under a
+/// version not 0, or an open message with an impossible cut or a map that is
+/// empty, full or marked past TBN".
+pub fn within_limits(receiver: &Receiver) -> bool {
+    settings_right(receiver)
+        && receiver.clock <= CLOCK_MOST
+        && receiver
+            .senders
+            .iter()
+            .all(|sender| sender_right(sender, receiver.clock))
+}
+
+/// The settings and the table of senders, as setup limits them. Of the states
+/// without senders only the empty one passes: "9 lets it pass".
+fn settings_right(receiver: &Receiver) -> bool {
+    if receiver.senders.is_empty() {
+        let empty = Receiver::empty();
+        return (receiver.test, receiver.n1, receiver.t) == (empty.test, empty.n1, empty.t);
+    }
+    let pairs: Vec<(u8, u16)> = receiver
+        .senders
+        .iter()
+        .map(|sender| (sender.field, sender.node))
+        .collect();
+    n1_right(receiver.n1) && t_right(receiver.t) && senders_right(&pairs)
+}
+
+fn sender_right(sender: &Sender, clock: u64) -> bool {
+    last_number_right(sender)
+        && (!sender.open || open_message_right(&sender.message, clock))
+        && (!sender.alive || sender.alive_stamp <= clock)
+}
+
+/// A last number is 0 at setup and otherwise 1 to M; "last number 0 under a
+/// version not 0" is outside.
+fn last_number_right(sender: &Sender) -> bool {
+    sender.last_number <= numbers::M && (sender.last_number != 0 || sender.last_version == 0)
+}
+
+/// "open SEQ or open code outside this paper's limits, a stamp after the clock,
+/// [...] or an open message with an impossible cut or a map that is empty, full
+/// or marked past TBN".
+fn open_message_right(message: &OpenMessage, clock: u64) -> bool {
+    numbers::seq_right(message.seq)
+        && header::code(message.tcd) == Code::User
+        && message.stamp <= clock
+        && open_cut_possible(message)
+        && open_map_right(message)
+}
+
+/// A message of several pieces can be cut so: n at most 16,384, u 256 to 1,396
+/// and "(TBN - 1) x u < n <= TBN x u". One piece is never open.
+fn open_cut_possible(message: &OpenMessage) -> bool {
+    let (n, u) = (u64::from(message.n), u64::from(message.u));
+    let tbn = u64::from(message.tbn);
+    n <= cut::N_MOST as u64 && tbn >= 2 && cut::u_right(u) && (tbn - 1) * u < n && n <= tbn * u
+}
+
+/// A map of pieces held: some are held, some are missing, none past TBN.
+fn open_map_right(message: &OpenMessage) -> bool {
+    let full = full_map(message.tbn);
+    message.map != 0 && message.map != full && message.map & !full == 0
+}
+
+/// 01: "piece c at bit c - 1, bit 0 lowest." No bit for a piece outside 1 to 64.
+pub fn bit(piece: u8) -> u64 {
+    match piece {
+        1..=64 => 1 << (piece - 1),
+        _ => 0,
+    }
+}
+
+/// The map with all of a message's pieces held.
+pub fn full_map(tbn: u8) -> u64 {
+    (1..=tbn).fold(0, |map, piece| map | bit(piece))
+}
+
+#[cfg(test)]
+mod tests {
+    use super::*;
+
+    fn good() -> Setup {
+        Setup {
+            mode: 0,
+            n1: 16,
+            t: 15_000,
+            senders: vec![(1, 7), (2, 9)],
+        }
+    }
+
+    /// The setup's number; a refused one gives the empty state.
+    fn number(change: &dyn Fn(&mut Setup)) -> u8 {
+        let mut wanted = good();
+        change(&mut wanted);
+        let (number, receiver) = setup(&wanted);
+        if number == 10 {
+            assert_eq!(receiver, Receiver::empty());
+        } else {
+            assert!(within_limits(&receiver));
+            assert_eq!(receiver.senders.len(), wanted.senders.len());
+        }
+        number
+    }
+
+    #[test]
+    fn setup_starts_all_at_nought() {
+        let (number, receiver) = setup(&good());
+        assert_eq!(number, 0);
+        assert_eq!(
+            (receiver.test, receiver.n1, receiver.t),
+            (false, 16, 15_000)
+        );
+        assert_eq!(receiver.clock, 0);
+        let sender = &receiver.senders[1];
+        assert_eq!((sender.field, sender.node), (2, 9));
+        assert_eq!((sender.last_version, sender.last_number), (0, 0));
+        assert!(!sender.open && !sender.alive);
+        assert!(setup(&Setup { mode: 1, ..good() }).1.test);
+    }
+
+    #[test]
+    fn row_10_settings_on_both_sides() {
+        assert_eq!(number(&|s| s.mode = 1), 0);
+        assert_eq!(number(&|s| s.mode = 2), 10);
+        assert_eq!(number(&|s| s.mode = 255), 10);
+        assert_eq!(number(&|s| s.n1 = 0), 10);
+        assert_eq!(number(&|s| s.n1 = 1), 0);
+        assert_eq!(number(&|s| s.n1 = 1_024), 0);
+        assert_eq!(number(&|s| s.n1 = 1_025), 10);
+        assert_eq!(number(&|s| s.t = 0), 10);
+        assert_eq!(number(&|s| s.t = 1), 0);
+        assert_eq!(number(&|s| s.t = 600_000), 0);
+        assert_eq!(number(&|s| s.t = 600_001), 10);
+    }
+
+    #[test]
+    fn row_10_senders_on_both_sides() {
+        assert_eq!(number(&|s| s.senders.clear()), 10);
+        assert_eq!(number(&|s| s.senders.truncate(1)), 0);
+        let many =
+            |count: u16| move |s: &mut Setup| s.senders = (1..=count).map(|i| (1, i)).collect();
+        assert_eq!(number(&many(16)), 0);
+        assert_eq!(number(&many(17)), 10);
+        assert_eq!(number(&|s| s.senders[1] = (0, 9)), 10);
+        assert_eq!(number(&|s| s.senders[1] = (255, 9)), 0);
+        assert_eq!(number(&|s| s.senders[1] = (2, 0)), 10);
+        assert_eq!(number(&|s| s.senders[1] = (2, 1)), 0);
+        assert_eq!(number(&|s| s.senders[1] = (2, 4_095)), 0);
+        assert_eq!(number(&|s| s.senders[1] = (2, 4_096)), 10);
+        assert_eq!(number(&|s| s.senders[1] = (1, 7)), 10);
+        assert_eq!(number(&|s| s.senders[1] = (1, 8)), 0);
+        assert_eq!(number(&|s| s.senders[1] = (2, 7)), 0);
+    }
+
+    /// A state with everything in use: Figure 54's message open with pieces 1
+    /// and 3 held, the second sender alive.
+    fn busy() -> Receiver {
+        let mut receiver = setup(&good()).1;
+        receiver.clock = 1_000;
+        let first = &mut receiver.senders[0];
+        (first.last_version, first.last_number) = (5, 99);
+        first.open = true;
+        first.message = OpenMessage {
+            version: 5,
+            seq: 100,
+            tcd: 1,
+            n: 4_500,
+            tbn: 4,
+            u: 1_332,
+            map: 0b0101,
+            stamp: 1_000,
+        };
+        let second = &mut receiver.senders[1];
+        (second.alive, second.alive_stamp, second.al_tm_out) = (true, 1_000, 60);
+        receiver
+    }
+
+    /// Does the busy state, so changed, pass 9?
+    fn passes(change: &dyn Fn(&mut Receiver)) -> bool {
+        let mut receiver = busy();
+        change(&mut receiver);
+        within_limits(&receiver)
+    }
+
+    #[test]
+    fn row_9_settings_and_senders() {
+        assert!(passes(&|_| ()));
+        assert!(passes(&|r| r.test = true));
+        assert!(!passes(&|r| r.n1 = 0) && passes(&|r| r.n1 = 1));
+        assert!(passes(&|r| r.n1 = 1_024) && !passes(&|r| r.n1 = 1_025));
+        assert!(!passes(&|r| r.t = 0) && passes(&|r| r.t = 1));
+        assert!(passes(&|r| r.t = 600_000) && !passes(&|r| r.t = 600_001));
+        assert!(!passes(&|r| r.senders[1].field = 0));
+        assert!(!passes(&|r| r.senders[1].node = 0));
+        assert!(!passes(&|r| r.senders[1].node = 4_096));
+        assert!(passes(&|r| r.senders[1].node = 4_095));
+        assert!(!passes(
+            &|r| (r.senders[1].field, r.senders[1].node) = (1, 7)
+        ));
+        assert!(passes(&|r| (r.senders[1].field, r.senders[1].node) = (1, 9)));
+        let count = |n: u16| {
+            move |r: &mut Receiver| r.senders = (1..=n).map(|i| unheard(&(3, i))).collect()
+        };
+        assert!(passes(&count(16)) && !passes(&count(17)));
+    }
+
+    #[test]
+    fn row_9_of_states_without_senders() {
+        let empty = Receiver::empty();
+        assert!(within_limits(&empty));
+        let clock = CLOCK_MOST;
+        assert!(within_limits(&Receiver {
+            clock,
+            ..empty.clone()
+        }));
+        let clock = CLOCK_MOST + 1;
+        assert!(!within_limits(&Receiver {
+            clock,
+            ..empty.clone()
+        }));
+        assert!(!within_limits(&Receiver {
+            test: true,
+            ..empty.clone()
+        }));
+        assert!(!within_limits(&Receiver {
+            n1: 2,
+            ..empty.clone()
+        }));
+        assert!(!within_limits(&Receiver { t: 2, ..empty }));
+    }
+
+    #[test]
+    fn row_9_time_and_last_number() {
+        assert!(passes(&|r| r.clock = CLOCK_MOST) && !passes(&|r| r.clock = CLOCK_MOST + 1));
+        assert!(passes(&|r| r.senders[0].last_number = numbers::M));
+        assert!(!passes(&|r| r.senders[0].last_number = numbers::M + 1));
+        assert!(!passes(&|r| r.senders[0].last_number = 0));
+        assert!(passes(&|r| (
+            r.senders[0].last_version,
+            r.senders[0].last_number
+        ) = (0, 0)));
+        assert!(passes(&|r| (
+            r.senders[0].last_version,
+            r.senders[0].last_number
+        ) = (0, 9)));
+        assert!(passes(&|r| r.senders[0].last_version = u32::MAX));
+        let above = numbers::M + 1;
+        assert!(!passes(&|r| (
+            r.senders[0].last_version,
+            r.senders[0].last_number
+        ) = (0, above)));
+    }
+
+    #[test]
+    fn row_9_stamps_are_not_after_the_clock() {
+        assert!(!passes(&|r| r.senders[0].message.stamp = 1_001));
+        assert!(passes(&|r| r.senders[0].message.stamp = 0));
+        assert!(!passes(&|r| r.senders[1].alive_stamp = 1_001));
+        assert!(passes(&|r| r.senders[1].alive_stamp = 0));
+        assert!(passes(&|r| r.senders[1].al_tm_out = u32::MAX));
+    }
+
+    #[test]
+    fn row_9_open_message() {
+        let passes = |change: &dyn Fn(&mut OpenMessage)| {
+            passes(&|r: &mut Receiver| change(&mut r.senders[0].message))
+        };
+        assert!(!passes(&|m| m.seq = 0) && passes(&|m| m.seq = 1));
+        assert!(passes(&|m| m.seq = numbers::M) && !passes(&|m| m.seq = numbers::M + 1));
+        assert!(passes(&|m| m.version = 0) && passes(&|m| m.version = u32::MAX));
+        assert!(!passes(&|m| m.tcd = 0) && passes(&|m| m.tcd = 59_999));
+        assert!(!passes(&|m| m.tcd = 60_000) && !passes(&|m| m.tcd = 60_003));
+        assert!(!passes(&|m| m.n = 3_996) && passes(&|m| m.n = 3_997));
+        assert!(passes(&|m| m.n = 5_328) && !passes(&|m| m.n = 5_329));
+        assert!(!passes(&|m| m.tbn = 3) && !passes(&|m| m.tbn = 5));
+        assert!(!passes(&|m| (m.n, m.tbn, m.u, m.map) = (510, 2, 255, 1)));
+        assert!(passes(&|m| (m.n, m.tbn, m.u, m.map) = (512, 2, 256, 1)));
+        assert!(passes(&|m| (m.n, m.tbn, m.u, m.map) = (2_792, 2, 1_396, 1)));
+        assert!(!passes(&|m| (m.n, m.tbn, m.u, m.map) = (2_794, 2, 1_397, 1)));
+        assert!(passes(
+            &|m| (m.n, m.tbn, m.u, m.map) = (16_384, 12, 1_396, 1)
+        ));
+        assert!(!passes(
+            &|m| (m.n, m.tbn, m.u, m.map) = (16_385, 12, 1_396, 1)
+        ));
+        for map in 0..4 {
+            assert!(!passes(&|m| (m.n, m.tbn, m.u, m.map) = (300, 1, 300, map)));
+        }
+    }
+
+    #[test]
+    fn row_9_map_empty_full_or_past_tbn() {
+        let passes = |change: &dyn Fn(&mut OpenMessage)| {
+            passes(&|r: &mut Receiver| change(&mut r.senders[0].message))
+        };
+        assert!(!passes(&|m| m.map = 0) && passes(&|m| m.map = 1));
+        assert!(!passes(&|m| m.map = 0b1111) && passes(&|m| m.map = 0b0111));
+        assert!(!passes(&|m| m.map = 0b1_0001) && passes(&|m| m.map = 0b1000));
+        assert!(!passes(&|m| m.map = 1 << 63 | 1));
+        let widest =
+            |map: u64| move |m: &mut OpenMessage| (m.n, m.tbn, m.u, m.map) = (16_384, 64, 256, map);
+        assert!(passes(&widest(1 << 63)) && passes(&widest(u64::MAX - 1)));
+        assert!(!passes(&widest(u64::MAX)) && !passes(&widest(0)));
+    }
+
+    #[test]
+    fn records_not_in_use_are_never_looked_at() {
+        let damaged = OpenMessage {
+            map: u64::MAX,
+            stamp: u64::MAX,
+            ..OpenMessage::default()
+        };
+        assert!(passes(&|r| r.senders[1].message = damaged.clone()));
+        assert!(passes(&|r| r.senders[0].alive_stamp = u64::MAX));
+        assert!(passes(&|r| r.senders[0].al_tm_out = 7));
+    }
+
+    #[test]
+    fn bits_and_full_maps() {
+        assert_eq!((bit(1), bit(2), bit(64)), (1, 2, 0x8000_0000_0000_0000));
+        assert_eq!((bit(0), bit(65), bit(255)), (0, 0, 0));
+        assert_eq!((full_map(2), full_map(4)), (0b11, 0b1111));
+        assert_eq!((full_map(63), full_map(64)), (u64::MAX >> 1, u64::MAX));
+    }
+}

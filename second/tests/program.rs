@@ -1,0 +1,146 @@
+//! The program `second` and the example texts: expected lines are written out
+//! from 01.
+
+use std::io::Write;
+use std::process::{Command, Output, Stdio};
+
+use second::fields::run;
+use second::text::capture_of;
+
+const LISTING: &str = include_str!("../examples/listing.txt");
+const NIGHT: &str = include_str!("../examples/night.txt");
+
+/// 01, "Program and one full listing".
+const LISTING_LINES: &str = "S 0
+P 0 0 1 0
+P 0 0 2 0
+P 0 0 3 0
+P 1 1 0 4500
+C 0 0 0
+P 17 0 0 0
+";
+
+#[test]
+fn the_full_listing() {
+    assert_eq!(run(&capture_of(LISTING).unwrap()), LISTING_LINES);
+}
+
+/// The night by 01: verdict 1 first, 2 next; piece 3 and 12 come twice (20);
+/// the second raft's open message is of ms 9000 and T is 15000; it was heard at
+/// ms 0 with 40 s.
+const NIGHT_LINES: &str = "\
+S 0
+A 0
+A 0
+C 0 0 0
+P 1 1 0 80
+P 0 0 1 0
+P 0 0 2 0
+P 0 0 3 0
+P 0 0 1 0
+C 0 0 0
+P 0 0 4 0
+P 20 0 0 0
+P 0 0 5 0
+P 0 0 2 0
+P 0 0 6 0
+P 0 0 7 0
+C 0 0 0
+P 0 0 8 0
+P 20 0 0 0
+P 0 0 9 0
+P 1 1 0 3000
+P 0 0 10 0
+P 0 0 11 0
+P 0 0 1 0
+C 0 0 0
+P 1 2 0 16384
+A 0
+C 0 2 0
+C 0 0 0
+C 0 0 2
+P 17 0 0 0
+P 17 0 0 0
+P 1 2 0 0
+A 0
+C 0 0 0
+";
+
+#[test]
+fn a_night() {
+    assert_eq!(run(&capture_of(NIGHT).unwrap()), NIGHT_LINES);
+}
+
+/// Runs the program with these words and this input.
+fn second(words: &[&str], input: &[u8]) -> Output {
+    let mut child = Command::new(env!("CARGO_BIN_EXE_second"))
+        .args(words)
+        .stdin(Stdio::piped())
+        .stdout(Stdio::piped())
+        .stderr(Stdio::piped())
+        .spawn()
+        .unwrap();
+    // The program may end without reading all of it.
+    let _ = child.stdin.take().unwrap().write_all(input);
+    child.wait_with_output().unwrap()
+}
+
+fn lines(output: &Output) -> &str {
+    std::str::from_utf8(&output.stdout).unwrap()
+}
+
+#[test]
+fn capture_then_run_then_tally() {
+    let capture = second(&["capture"], LISTING.as_bytes());
+    assert_eq!(capture.status.code(), Some(0));
+    let run = second(&["run"], &capture.stdout);
+    assert_eq!((run.status.code(), lines(&run)), (Some(0), LISTING_LINES));
+    let tally = second(&["tally"], &run.stdout);
+    let expected = "C 0 1\nP 0 3\nP 1 1\nP 17 1\nS 0 1\nV 0 4\nV 1 1\n";
+    assert_eq!((tally.status.code(), lines(&tally)), (Some(0), expected));
+}
+
+#[test]
+fn a_wrong_line_is_told_on_standard_error() {
+    let wrong = second(&["capture"], b"clock 1\n\npdu fild=1\n");
+    assert_eq!(wrong.status.code(), Some(1));
+    assert!(wrong.stdout.is_empty());
+    let said = String::from_utf8(wrong.stderr).unwrap();
+    assert!(said.contains("line 3:"), "{said}");
+    assert_eq!(second(&["tally"], b"S 0\nx\n").status.code(), Some(1));
+}
+
+#[test]
+fn unknown_words_give_the_usage() {
+    let wrong: [&[&str]; 6] = [
+        &[],
+        &["edges"],
+        &["run", "now"],
+        &["random", "1"],
+        &["random", "x", "5"],
+        &["random-cut"],
+    ];
+    for words in wrong {
+        let output = second(words, b"");
+        assert_eq!(output.status.code(), Some(2), "{words:?}");
+        assert!(output.stdout.is_empty());
+        assert!(output.stderr.starts_with(b"usage: second"), "{words:?}");
+    }
+}
+
+#[test]
+fn random_captures_run_to_their_end() {
+    let capture = second(&["random", "5", "200"], b"");
+    let run = second(&["run"], &capture.stdout);
+    assert_eq!(lines(&run).lines().count(), 200);
+    assert!(!lines(&run).contains('E'));
+    let cut = second(&["random-cut", "5"], b"");
+    let run = second(&["run"], &cut.stdout);
+    assert!(lines(&run).ends_with("E\n"));
+}
+
+#[test]
+fn an_empty_input_prints_nothing() {
+    let run = second(&["run"], b"");
+    assert_eq!((run.status.code(), lines(&run)), (Some(0), ""));
+}
