@@ -26,7 +26,7 @@ fn the_full_listing() {
 }
 
 /// The night by 01: verdict 1 first, 2 next; piece 3 and 12 come twice (20);
-/// the second raft's open message is of ms 9000 and T is 15000; it was heard at
+/// the second desk's open message is of ms 9000 and T is 15000; it was heard at
 /// ms 0 with 40 s.
 const NIGHT_LINES: &str = "\
 S 0

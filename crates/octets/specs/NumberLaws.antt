@@ -3,14 +3,18 @@ use mathlib.Core.Path.{_≡_, refl, sym, ap, ap₂, _∙_}
 use mathlib.Core.Logic.{_⊎_, inl, inr, ⊎-elim}
 use mathlib.Core.List.{List, [], _∷_, _++_}
 use Prim.Native.Nat.{ℕ, zero, suc, _+_, _*_, _/_, _%_, _^_, _≤_, _<_}
-use native.Mathlib.Nat.{add-zero, add-suc, add-assoc, zero-add, mul-one, mul-assoc, pow-suc, pow-zero, add-mul, mod-one, mod-eq-of-lt, mod-lt}
+use native.Mathlib.Nat.{add-zero, add-suc, add-assoc, zero-add, mul-one, mul-assoc, pow-suc, pow-zero, add-mul, mod-one, mod-eq-of-lt, mul-le-mul-right}
 use native.Mathlib.Omega.{arith}
+use mathlib.Core.Bool.{_&&_}
 use lib.Arith.{mod-mul, digits-lt}
+use lib.Dec.{eqb}
 use lib.ListN.{length, drop, length-append, List·getD-append}
 use lib.Seq.{getD-drop, getD-at}
+use borrow.Author.Tests.{eqb-true, eq-eqb}
 use Rattle.octets.specs.Number.{octet, number, octets}
 use Rattle.octets.specs.Run.{laid}
 use Rattle.octets.specs.RunLaws.{laid-in, laid-out}
+use Rattle.octets.specs.Split.{lt-or-le, same-test, both, and-left, and-right}
 
 -- ---- reading
 
@@ -56,6 +60,10 @@ number-bound (suc w) s at o = rw (pow-suc 256 w) (digits-lt (number-bound w s at
 
 -- ---- writing
 
+power : (k : ℕ) → zero < 256 ^ k
+power zero = omega arith
+power (suc k) = rw (pow-suc 256 k) (omega (arith, power k))
+
 pub length-octets : (w x : ℕ) → length (octets w x) ≡ w
 unfolding octets
 length-octets zero x = refl
@@ -73,11 +81,7 @@ number-octets (suc w) x =
     = number-ext w (front ++ (x % 256 ∷ [])) front 0 0 (λ k q. List·getD-append front (x % 256 ∷ []) 0 (0 + k) (omega (arith, length-octets w (x / 256)))) in
     let e : number w (front ++ (x % 256 ∷ [])) 0 * 256 + octet (front ++ (x % 256 ∷ [])) (0 + w) ≡ (x / 256 % 256 ^ w) * 256 + x % 256
     = ap₂ (λ (a b : ℕ). a * 256 + b) (rest ∙ number-octets w (x / 256)) last in
-    e ∙ sym (ap (λ (m : ℕ). x % m) (pow-suc 256 w) ∙ mod-mul x (pos w) (omega arith))
-  where
-    pos : (k : ℕ) → zero < 256 ^ k
-    pos zero = omega arith
-    pos (suc k) = rw (pow-suc 256 k) (omega (arith, pos k))
+    e ∙ sym (ap (λ (m : ℕ). x % m) (pow-suc 256 w) ∙ mod-mul x (power w) (omega arith))
 
 pub number-octets-fits : (w x : ℕ) → x < 256 ^ w → number w (octets w x) 0 ≡ x
 number-octets-fits w x h = number-octets w x ∙ mod-eq-of-lt h
@@ -96,3 +100,26 @@ pub number-beside : (w : ℕ) (s : List ℕ) (a b : ℕ) (p : List ℕ) → b + 
 number-beside w s a b p fits = ⊎-elim
     (λ (h : a + w ≤ b). number-ext w (laid s b p) s a a (λ k q. laid-out s b p fits (a + k) (inl (omega arith))))
     (λ (h : b + length p ≤ a). number-ext w (laid s b p) s a a (λ k q. laid-out s b p fits (a + k) (inr (omega arith))))
+
+-- A number is 0 where both of its parts are.
+pub number-zero : (a b : ℕ) (s : List ℕ) (at : ℕ) → eqb (number a s at) 0 && eqb (number b s (at + a)) 0 ≡ eqb (number (a + b) s at) 0
+number-zero a b s at = same-test (eqb high 0 && eqb low 0) (eqb (number (a + b) s at) 0)
+    (λ e.
+    let x : high ≡ 0 = eqb-true high 0 (and-left (eqb high 0) (eqb low 0) e) in
+    let y : low ≡ 0 = eqb-true low 0 (and-right (eqb high 0) (eqb low 0) e) in
+    eq-eqb (number (a + b) s at) 0 (number-cat a b s at ∙ rw (x, y) (omega arith)))
+    (λ e.
+    let z : high * 256 ^ b + low ≡ 0 = sym (number-cat a b s at) ∙ eqb-true (number (a + b) s at) 0 e in
+    both (eqb high 0) (eqb low 0) (eq-eqb high 0 (none (omega arith))) (eq-eqb low 0 (omega arith)))
+  where
+    high : ℕ
+    high = number a s at
+
+    low : ℕ
+    low = number b s (at + a)
+
+    none : high * 256 ^ b ≡ 0 → high ≡ 0
+    none e = ⊎-elim
+        (λ (h : high < 1). omega arith)
+        (λ (h : 1 ≤ high). absurd (omega (arith, mul-le-mul-right {m = 1} {n = high} (256 ^ b) h, power b)))
+        (lt-or-le high 1)

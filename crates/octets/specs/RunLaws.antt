@@ -5,7 +5,7 @@ use mathlib.Core.List.{List, _++_, append-assoc}
 use Prim.Native.Nat.{ℕ, _+_, _-_, _≤_, _<_}
 use native.Mathlib.Omega.{arith}
 use lib.ListN.{length, take, drop, length-append, length-take, length-drop, List·getD-append}
-use lib.Seq.{length-take-le, getD-append-add, getD-take, getD-drop, take-add, paste, take-length}
+use lib.Seq.{length-take-le, getD-append-add, getD-take, getD-drop, take-add, paste, take-length, drop-at, drop-drop, drop-append-seam}
 use borrow.Author.Tests.{le-leb, lt-leb}
 use Rattle.octets.specs.Number.{octet}
 use Rattle.octets.specs.Run.{run, laid}
@@ -76,3 +76,10 @@ take-run at n s = take-add at n s
 -- What a loop leaves that has copied every octet of p.
 pub laid-paste : (s : List ℕ) (at : ℕ) (p : List ℕ) → at + length p ≤ length s → paste s at p (length p) ≡ laid s at p
 laid-paste s at p h = rw (take-length p, append-assoc (take at s) p (drop (at + length p) s)) (sym (laid-fits s at p h))
+
+-- What stands behind a run that was laid down stays.
+pub laid-drop : (s : List ℕ) (at : ℕ) (p : List ℕ) → at + length p ≤ length s → drop (at + length p) (laid s at p) ≡ drop (at + length p) s
+laid-drop s at p h =
+    let back : drop at (laid s at p) ≡ p ++ drop (at + length p) s
+    = ap (drop at) (laid-fits s at p h) ∙ drop-at (take at s) (p ++ drop (at + length p) s) at (length-take-le at s (omega arith)) in
+    sym (drop-drop (length p) at (laid s at p)) ∙ ap (drop (length p)) back ∙ drop-append-seam p (drop (at + length p) s)

@@ -1,7 +1,7 @@
 -- The ring of sequence numbers: how far one lies behind another, and which of two is newer.
 use Prim.Native.Nat.{ℕ, _+_, _-_, _%_, _≤_}
-use mathlib.Core.Bool.{Bool}
-use lib.Dec.{ltb}
+use mathlib.Core.Bool.{Bool, _&&_}
+use lib.Dec.{leb, ltb}
 
 -- "SEQ is 1 to M, where M = 2,147,483,647."
 abbrev pub M : ℕ
@@ -10,6 +10,10 @@ M = 2147483647
 pub record OnRing (x : ℕ) : Type 0 where
   pub first : 1 ≤ x
   pub last : x ≤ M
+
+-- The same as a test.
+abbrev pub isNumber : ℕ → Bool
+isNumber x = leb 1 x && leb x M
 
 -- The remainder of a − b by M, 0 to M − 1. M is added before b's remainder is taken away, so that no difference falls below 0.
 unfoldable pub remainder : ℕ → ℕ → ℕ

@@ -5,9 +5,13 @@ use mathlib.Core.Bool.{Bool, true, false}
 use Prim.Native.Nat.{ℕ, suc, _+_, _-_, _*_, _/_, _%_, _≤_, _<_}
 use native.Mathlib.Nat.{mod-lt}
 use native.Mathlib.Omega.{arith}
-use borrow.Author.Tests.{lt-ltb, le-ltb}
-use Rattle.octets.specs.Split.{lt-or-le, eq-or-ne}
-use Rattle.ring.specs.Ring.{M, OnRing, remainder, back, skipped, newer}
+use lib.Dec.{leb}
+use borrow.Author.Tests.{lt-ltb, le-ltb, leb-true}
+use Rattle.octets.specs.Split.{lt-or-le, eq-or-ne, and-left, and-right}
+use Rattle.ring.specs.Ring.{M, OnRing, isNumber, remainder, back, skipped, newer}
+
+pub on-ring : (x : ℕ) → isNumber x ≡ true → OnRing x
+on-ring x e = record { first = leb-true 1 x (and-left (leb 1 x) (leb x M) e); last = leb-true x M (and-right (leb 1 x) (leb x M) e) }
 
 pub remainder-bound : (a b : ℕ) → remainder a b < M
 unfolding remainder

@@ -7,7 +7,7 @@ ghost use mathlib.Core.Bool.{cond};
 ghost use Prim.Native.Nat.{_-_, _<_};
 ghost use lib.Dec.{eqb, ltb};
 ghost use Rattle.ring.specs.declared.Verdict.the-variants.{Repeat, Next, Gap};
-ghost use Rattle.ring.specs.Ring.{M as last, back as backOf, newer as isNewer};
+ghost use Rattle.ring.specs.Ring.{M as last, back as backOf, newer as isNewer, isNumber};
 ghost use Rattle.ring.specs.Check.{check, verdictNumber, verdictSkipped};
 
 // V_SEQ: any 32-bit number.
@@ -27,6 +27,15 @@ pub enum Verdict {
     Next,
     // how many numbers were skipped
     Gap(u32),
+}
+
+impl Number {
+    // Whether it is 1 to M.
+    pub fn within(self) -> bool
+        ensures { λ r. ⌜ r ≡ isNumber (self .0) ⌝ }
+    {
+        (1 <= self.0) & (self.0 <= M)
+    }
 }
 
 // How far back s lies behind r, 0 to M - 1.

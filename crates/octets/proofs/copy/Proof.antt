@@ -35,13 +35,23 @@ loop-less : tie.Need-loop-less Inv-loop μ-loop
 loop-less c = omega arith
 
 loop-again : tie.Need-loop-again Inv-loop μ-loop
-loop-again c = let l = c .before .before .loop in let a = c .before .before .before .args in (omega arith, rw (l .inv .1, add-one (l .i)) (paste-suc (now (a .s)) (a .at) (now (a .run)) (l .i) 0 (omega arith) (omega arith)), simp length-set (l .inv .2))
+loop-again c =
+    let l = c .before .before .loop in
+    let a = c .before .before .before .args in (
+      omega arith,
+      rw (l .inv .1, add-one (l .i)) (paste-suc (now (a .s)) (a .at) (now (a .run)) (l .i) 0 (omega arith) (omega arith)),
+      simp length-set (l .inv .2),
+    )
 
 same-length : tie.Need-same-length Inv-loop μ-loop
 same-length c = c .before .loop .inv .2
 
 returns : tie.Need-returns Inv-loop μ-loop
-returns c = let a = c .before .before .args in let e : c .before .loop .i ≡ length (now (a .run)) = omega arith in rw e at (c .before .loop .inv .1) ∙ laid-paste (now (a .s)) (a .at) (now (a .run)) (c .before .before .pre)
+returns c =
+    let l = c .before .loop in
+    let a = c .before .before .args in
+    let e : l .i ≡ length (now (a .run)) = omega arith in
+    rw e at (l .inv .1) ∙ laid-paste (now (a .s)) (a .at) (now (a .run)) (c .before .before .pre)
 
 pub copy-spec : {M : Type 1} → statement M
 copy-spec =

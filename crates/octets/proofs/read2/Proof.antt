@@ -28,7 +28,13 @@ add-result : tie.Need-add-result
 add-result c = search needs
 
 returns : tie.Need-returns
-returns c = let a = c .before .before .before .before .before .before .args in number-halves 1 (now (a .s)) (a .at) _ _ _ (c .before .before .before .before .from .ensures) (c .before .before .wide1 .ensures .0 ∙ c .before .before .before .read1 .ensures) (c .wide12 .ensures .0 ∙ c .before .read12 .ensures)
+returns c =
+    let high = c .before .before in
+    let part = high .before .before in
+    let a = part .before .before .args in
+    number-halves 1 (now (a .s)) (a .at) _ _ _ (part .from .ensures)
+    (high .wide1 .ensures .0 ∙ high .before .read1 .ensures)
+    (c .wide12 .ensures .0 ∙ c .before .read12 .ensures)
 
 pub read2-spec : {M : Type 1} → statement M
 read2-spec =

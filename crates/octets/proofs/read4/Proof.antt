@@ -28,7 +28,13 @@ add-result : tie.Need-add-result
 add-result c = search needs
 
 returns : tie.Need-returns
-returns c = let a = c .before .before .before .before .before .before .args in number-halves 2 (now (a .s)) (a .at) _ _ _ (c .before .before .before .before .from .ensures) (c .before .before .wide2 .ensures .0 ∙ c .before .before .before .read2 .ensures) (c .wide22 .ensures .0 ∙ c .before .read22 .ensures)
+returns c =
+    let high = c .before .before in
+    let part = high .before .before in
+    let a = part .before .before .args in
+    number-halves 2 (now (a .s)) (a .at) _ _ _ (part .from .ensures)
+    (high .wide2 .ensures .0 ∙ high .before .read2 .ensures)
+    (c .wide22 .ensures .0 ∙ c .before .read22 .ensures)
 
 pub read4-spec : {M : Type 1} → statement M
 read4-spec =

@@ -28,7 +28,13 @@ add-result : tie.Need-add-result
 add-result c = search needs
 
 returns : tie.Need-returns
-returns c = let a = c .before .before .before .before .before .before .args in number-halves 4 (now (a .s)) (a .at) _ _ _ (c .before .before .before .before .from .ensures) (c .before .before .wide4 .ensures .0 ∙ c .before .before .before .read4 .ensures) (c .wide42 .ensures .0 ∙ c .before .read42 .ensures)
+returns c =
+    let high = c .before .before in
+    let part = high .before .before in
+    let a = part .before .before .args in
+    number-halves 4 (now (a .s)) (a .at) _ _ _ (part .from .ensures)
+    (high .wide4 .ensures .0 ∙ high .before .read4 .ensures)
+    (c .wide42 .ensures .0 ∙ c .before .read42 .ensures)
 
 pub read8-spec : {M : Type 1} → statement M
 read8-spec =

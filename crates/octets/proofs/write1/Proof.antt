@@ -19,7 +19,11 @@ same-length c = search needs
 
 returns : tie.Need-returns
 unfolding octets
-returns c = let a = c .before .before .before .before .before .before .args in let e : a .x % 256 ≡ a .x = omega arith in rw e (c .before .before .lay .ensures)
+returns c =
+    let laid = c .before .before in
+    let a = laid .before .before .before .before .args in
+    let e : a .x % 256 ≡ a .x = omega arith in
+    rw e (laid .lay .ensures)
 
 pub write1-spec : {M : Type 1} → statement M
 write1-spec = tie.close (tie.spec slice-aggregate-lay lay-requires same-length returns)

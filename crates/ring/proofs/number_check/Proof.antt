@@ -28,7 +28,13 @@ by-distance-requires c κs = rw (c .back .ensures) (remainder-bound _ _)
 
 returns-4 : tie.Need-returns-4
 unfolding check
-returns-4 c = c .by-distance .ensures ∙ rule4-by-distance _ _ _ _ (c .before .back .ensures) ∙ simp (c .before .before .before .before .before .before .before .if1 .left, ne-eqb _ _ (c .before .before .before .before .before .if2 .left), eq-eqb _ _ (c .before .before .if3 .left))
+returns-4 c =
+    let d = c .before in
+    let same = d .before in
+    let known = same .before .before .before in
+    let checked = known .before .before in
+    c .by-distance .ensures ∙ rule4-by-distance _ _ _ _ (d .back .ensures)
+    ∙ simp (checked .if1 .left, ne-eqb _ _ (known .if2 .left), eq-eqb _ _ (same .if3 .left))
 
 pub number-check-spec : {M : Type 1} → statement M
 number-check-spec =

@@ -1,0 +1,188 @@
+-- A possible cut is one that the rule of cutting gives, and each that it gives is possible. Assumes nothing.
+use mathlib.Core.Path.{_≡_, refl, sym, ap, _∙_}
+use mathlib.Core.Logic.{_≢_, _⊎_, inl, inr, ⊎-elim}
+use mathlib.Core.Bool.{Bool, true, false, cond, _&&_}
+use Prim.Native.Nat.{ℕ, zero, suc, _+_, _-_, _*_, _/_, _%_, _≤_, _<_, min}
+use native.Mathlib.Nat.{mul-comm, div-add-mod', mul-div-right, mul-mod-right, mul-le-mul-right, zero-mul}
+use native.Mathlib.Omega.{arith}
+use lib.Dec.{eqb, leb, ltb}
+use borrow.Author.Tests.{leb-true, ltb-true, ltb-false, eqb-true, eqb-false, eq-eqb, ne-eqb, le-leb, lt-leb, lt-ltb, le-ltb}
+use Rattle.octets.specs.Split.{lt-or-le, eq-or-ne, cond-case, both, and-left, and-right}
+use Rattle.header.specs.declared.Cut.{Cut}
+use Rattle.header.specs.Places.{headerSize}
+use Rattle.cut.specs.Pieces.{mostOctets, leastUnit, mostUnit, pieces, piecePlace, pieceLength}
+use Rattle.cut.specs.PiecesLaws.{times, pieces-one, pieces-two, pieces-cover, pieces-below, pieces-only, pieces-most, pieces-some, length-front, length-last, length-only, place-within, piece-end, length-most}
+use Rattle.cut.specs.Possible.{messageLength, ownLength, unit, place, isUnit, frontPossible, lastPossible, possible}
+
+-- ---- what a possible cut says
+
+-- n octets cut into t pieces of u, of which piece c has p octets
+pub record IsCut (n t u c p : ℕ) : Type 0 where
+  pub count : pieces n u ≡ t
+  pub own : p ≡ pieceLength n u c
+  pub start : piecePlace u c ≤ n
+
+unit-one : (c : Cut) → c .tbn ≡ 1 → unit c ≡ messageLength c
+unfolding unit
+unit-one c e = rw (eq-eqb (c .tbn) 1 e)
+
+unit-front : (c : Cut) → c .tbn ≢ 1 → c .cbn < c .tbn → unit c ≡ ownLength c
+unfolding unit
+unit-front c e h = rw (ne-eqb (c .tbn) 1 e, lt-ltb (c .cbn) (c .tbn) h)
+
+unit-last : (c : Cut) → c .tbn ≢ 1 → c .tbn ≤ c .cbn → unit c ≡ (messageLength c - ownLength c) / (c .tbn - 1)
+unfolding unit
+unit-last c e h = rw (ne-eqb (c .tbn) 1 e, le-ltb (c .cbn) (c .tbn) h)
+
+cut-one : (n t u c p : ℕ) → t ≡ 1 → u ≡ n → 1 ≤ c → c ≤ t → p ≡ n → IsCut n t u c p
+cut-one n t u c p e whole low high f =
+    let one : pieces n u ≡ 1 = pieces-one n u (omega arith) in
+    let z : c - 1 ≡ 0 = omega arith in
+    record {
+      count = one ∙ sym e;
+      own = f ∙ sym (length-only n u c low (omega arith) one);
+      start = rw (z, zero-mul u) (omega arith);
+    }
+
+module _ (n t u c p : ℕ) (low : 1 ≤ c) (high : c ≤ t) (two : 2 ≤ t) where
+  pub cut-front : c < t → u ≡ p → leastUnit ≤ u → (t - 1) * u < n → n ≤ t * u → IsCut n t u c p
+  cut-front h e wide below cover =
+      let count = pieces-only n u t two below cover (omega arith) in
+      record {
+        count = count;
+        own = sym (length-front n u c (omega arith) low (rw count h) ∙ e);
+        start = omega (arith, mul-le-mul-right {m = c - 1} {n = t - 1} u (omega arith));
+      }
+
+  pub cut-last : c ≡ t → p < n → (n - p) % (t - 1) ≡ 0 → u ≡ (n - p) / (t - 1) → leastUnit ≤ u → 1 ≤ p → p ≤ u → IsCut n t u c p
+  cut-last h less even quotient wide some short =
+      let d : u * (t - 1) ≡ n - p = rw quotient (omega (arith, div-add-mod' (n - p) (t - 1))) in
+      let x : (t - 1) * u ≡ n - p = mul-comm (t - 1) u ∙ d in
+      let count = pieces-only n u t two (omega arith) (omega (arith, times t u (omega arith))) (omega arith) in
+      let y : piecePlace u c ≡ n - p = rw h x in
+      record {
+        count = count;
+        own = sym (length-last n u c (omega arith) low (rw count (omega arith)) ∙ omega arith);
+        start = omega arith;
+      }
+
+-- The facts of a possible cut.
+pub record Possible (c : Cut) : Type 0 where
+  pub room : headerSize ≤ c .ml
+  pub big : messageLength c ≤ mostOctets
+  pub own-room : headerSize ≤ c .bsize
+  pub one : 1 ≤ c .cbn
+  pub top : c .cbn ≤ c .tbn
+  pub wide : c .tbn ≢ 1 → (leastUnit ≤ unit c) × (unit c ≤ mostUnit)
+  pub cut : IsCut (messageLength c) (c .tbn) (unit c) (c .cbn) (ownLength c)
+
+module _ (c : Cut) (low : 1 ≤ c .cbn) (high : c .cbn ≤ c .tbn) where
+  n : ℕ
+  n = messageLength c
+
+  t : ℕ
+  t = c .tbn
+
+  u : ℕ
+  u = unit c
+
+  p : ℕ
+  p = ownLength c
+
+  abbrev Is : Type 0
+  Is = (t ≢ 1 → (leastUnit ≤ u) × (u ≤ mostUnit)) × IsCut n t u (c .cbn) p
+
+  wide-of : isUnit u ≡ true → (leastUnit ≤ u) × (u ≤ mostUnit)
+  wide-of e = (leb-true leastUnit u (and-left (leb leastUnit u) (leb u mostUnit) e), leb-true u mostUnit (and-right (leb leastUnit u) (leb u mostUnit) e))
+
+  if-one : t ≡ 1 → eqb p n ≡ true → Is
+  unfolding n t u p
+  if-one e f =
+      ((λ g. absurd (g e)), cut-one n t u (c .cbn) p e (unit-one c e) low high (eqb-true p n f))
+
+  if-front : t ≢ 1 → c .cbn < t → frontPossible n t u ≡ true → Is
+  unfolding n t u p frontPossible
+  if-front e h f =
+      let a = and-left (isUnit u && ltb ((t - 1) * u) n) (leb n (t * u)) f in
+      let w = wide-of (and-left (isUnit u) (ltb ((t - 1) * u) n) a) in
+      let b = ltb-true ((t - 1) * u) n (and-right (isUnit u) (ltb ((t - 1) * u) n) a) in
+      let d = leb-true n (t * u) (and-right (isUnit u && ltb ((t - 1) * u) n) (leb n (t * u)) f) in
+      ((λ _. w), cut-front n t u (c .cbn) p low high (omega arith) h (unit-front c e h) (w .0) b d)
+
+  if-last : t ≢ 1 → t ≤ c .cbn → lastPossible n t p u ≡ true → Is
+  unfolding n t u p lastPossible
+  if-last e h f =
+      let r = ltb p n in
+      let s = eqb ((n - p) % (t - 1)) 0 in
+      let w = isUnit u in
+      let v = leb 1 p in
+      let a = and-left (r && s && w && v) (leb p u) f in
+      let b = and-left (r && s && w) v a in
+      let d = and-left (r && s) w b in
+      let x = wide-of (and-right (r && s) w b) in
+      let two : 2 ≤ t = several (omega arith) e in (
+        (λ _. x),
+        cut-last n t u (c .cbn) p low high two (omega arith) (ltb-true p n (and-left r s d)) (eqb-true ((n - p) % (t - 1)) 0 (and-right r s d))
+            (unit-last c e h) (x .0) (leb-true 1 p (and-right (r && s && w) v a)) (leb-true p u (and-right (r && s && w && v) (leb p u) f)),
+      )
+    where
+      several : 1 ≤ t → t ≢ 1 → 2 ≤ t
+      several l g = ⊎-elim (λ (q : t < 2). absurd (g (omega arith))) (λ q. q) (lt-or-le t 2)
+
+  is-cut : cond (eqb t 1) (eqb p n) (cond (ltb (c .cbn) t) (frontPossible n t u) (lastPossible n t p u)) ≡ true → Is
+  is-cut = cond-case (λ (z : Bool). z ≡ true → Is) (eqb t 1) _ _
+      (λ e. if-one (eqb-true t 1 e))
+      (λ e. cond-case (λ (z : Bool). z ≡ true → Is) (ltb (c .cbn) t) _ _
+      (λ h. if-front (eqb-false t 1 e) (ltb-true (c .cbn) t h))
+      (λ h. if-last (eqb-false t 1 e) (ltb-false (c .cbn) t h)))
+
+pub possible-facts : (c : Cut) → possible c ≡ true → Possible c
+unfolding possible n t u p
+possible-facts c e =
+    let a1 = leb headerSize (c .ml) in
+    let a2 = leb (messageLength c) mostOctets in
+    let a3 = leb headerSize (c .bsize) in
+    let a4 = leb 1 (c .cbn) in
+    let a5 = leb (c .cbn) (c .tbn) in
+    let rest = cond (eqb (c .tbn) 1) (eqb (ownLength c) (messageLength c))
+    (cond (ltb (c .cbn) (c .tbn)) (frontPossible (messageLength c) (c .tbn) (unit c)) (lastPossible (messageLength c) (c .tbn) (ownLength c) (unit c))) in
+    let e5 = and-left (a1 && a2 && a3 && a4 && a5) rest e in
+    let e4 = and-left (a1 && a2 && a3 && a4) a5 e5 in
+    let e3 = and-left (a1 && a2 && a3) a4 e4 in
+    let e2 = and-left (a1 && a2) a3 e3 in
+    let low = leb-true 1 (c .cbn) (and-right (a1 && a2 && a3) a4 e4) in
+    let high = leb-true (c .cbn) (c .tbn) (and-right (a1 && a2 && a3 && a4) a5 e5) in
+    let is = is-cut c low high (and-right (a1 && a2 && a3 && a4 && a5) rest e) in
+    record {
+      room = leb-true headerSize (c .ml) (and-left a1 a2 e2);
+      big = leb-true (messageLength c) mostOctets (and-right a1 a2 e2);
+      own-room = leb-true headerSize (c .bsize) (and-right (a1 && a2) a3 e3);
+      one = low;
+      top = high;
+      wide = is .0;
+      cut = is .1;
+    }
+
+-- "TBN is at most 64 in any possible cut."
+pub possible-most : (c : Cut) → possible c ≡ true → c .tbn ≤ 64
+possible-most c e =
+    let f = possible-facts c e in
+    ⊎-elim
+    (λ (h : c .tbn ≡ 1). omega arith)
+    (λ (h : c .tbn ≢ 1). rw (f .cut .count) at (pieces-most (messageLength c) (unit c) (f .big) (f .wide h .0)))
+    (eq-or-ne (c .tbn) 1)
+
+-- A piece lies within its message.
+pub possible-within : (c : Cut) → possible c ≡ true → place c + ownLength c ≤ messageLength c
+possible-within c e =
+    let f = possible-facts c e in
+    ⊎-elim
+    (λ (h : c .tbn ≡ 1).
+    let z : c .cbn - 1 ≡ 0 = omega arith in
+    let k : place c ≡ 0 = rw (z, zero-mul (unit c)) refl in
+    omega (arith, f .cut .own, length-only (messageLength c) (unit c) (c .cbn) (f .one) (omega arith) (f .cut .count ∙ h)))
+    (λ (h : c .tbn ≢ 1).
+    let w = f .wide h .0 in
+    let q = piece-end (messageLength c) (unit c) (c .cbn) (omega arith) (f .one) (rw (f .cut .count) (f .top)) in
+    omega (arith, f .cut .own))
+    (eq-or-ne (c .tbn) 1)

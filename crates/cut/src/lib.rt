@@ -1,0 +1,7 @@
+// Cutting a message into PDUs (D.4.3), and judging whether a PDU's cut is possible.
+//
+// Every public function is total. Lengths are in octets, and pieces are counted from 1.
+
+pub mod cutter;
+pub mod pieces;
+pub mod possible;

@@ -1,0 +1,38 @@
+// How many pieces a message of n octets has at u octets a piece, and the length and place of each.
+ghost use mathlib.Core.Path.{_≡_};
+ghost use Rattle.cut.specs.Pieces.{pieces as piecesOf, pieceLength, piecePlace};
+
+// One piece where n is at most u, otherwise n / u rounded up. No message has pieces of 0 octets.
+pub fn pieces(n: usize, u: u16) -> usize
+    ensures { λ r. ⌜ r ≡ piecesOf n u ⌝ }
+{
+    let unit = u as usize;
+    if n <= unit {
+        return 1;
+    }
+    if unit == 0 {
+        return 0;
+    }
+    (n - 1) / unit + 1
+}
+
+// Where piece c starts in the message.
+pub fn piece_place(u: u16, c: u8) -> usize
+    ensures { λ r. ⌜ r ≡ piecePlace u c ⌝ }
+{
+    if c == 0 {
+        return 0;
+    }
+    ((c - 1) as usize) * (u as usize)
+}
+
+// All pieces but the last carry u octets, the last carries the rest.
+pub fn piece_length(n: usize, u: u16, c: u8) -> usize
+    ensures { λ r. ⌜ r ≡ pieceLength n u c ⌝ }
+{
+    if (c as usize) < pieces(n, u) {
+        return u as usize;
+    }
+    let start = piece_place(u, c);
+    if start <= n { n - start } else { 0 }
+}

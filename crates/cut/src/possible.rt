@@ -1,0 +1,108 @@
+// Whether a PDU's cut is possible, and what it says of the piece: by ML, BSIZE, CBN and TBN alone.
+ghost use mathlib.Core.Path.{_≡_};
+ghost use Prim.Native.Nat.{_-_, _≤_};
+ghost use Rattle.cut.specs.Possible.{messageLength, ownLength, unit as unitOf, place as placeOf, sizesWithin, frontPossible, lastPossible, possible as isPossible};
+use header::Cut;
+
+const HEADER: u32 = 64;
+
+// n, the message's length.
+pub fn message_length(c: Cut) -> u32
+    ensures { λ r. ⌜ r ≡ messageLength c ⌝ }
+{
+    less(c.ml, HEADER)
+}
+
+// p, the piece's own length.
+pub fn own_length(c: Cut) -> u32
+    ensures { λ r. ⌜ r ≡ ownLength c ⌝ }
+{
+    less(c.bsize as u32, HEADER)
+}
+
+// a - b, and 0 where b is larger.
+fn less(a: u32, b: u32) -> u32
+    ensures { λ r. ⌜ r ≡ a - b ⌝ }
+{
+    if b <= a { a - b } else { 0 }
+}
+
+// u, the length of every piece but the last.
+pub fn unit(c: Cut) -> u32
+    ensures { λ r. ⌜ r ≡ unitOf c ⌝ }
+{
+    if c.tbn == 1 {
+        return message_length(c);
+    }
+    if c.cbn < c.tbn {
+        return own_length(c);
+    }
+    if c.tbn == 0 {
+        return 0;
+    }
+    less(message_length(c), own_length(c)) / ((c.tbn - 1) as u32)
+}
+
+// Where the piece starts in the message.
+pub fn place(c: Cut) -> u64
+    ensures { λ r. ⌜ r ≡ placeOf c ⌝ }
+{
+    if c.cbn == 0 {
+        return 0;
+    }
+    ((c.cbn - 1) as u64) * (unit(c) as u64)
+}
+
+pub fn possible(c: Cut) -> bool
+    ensures { λ r. ⌜ r ≡ isPossible c ⌝ }
+{
+    if !sizes_within(c) {
+        return false;
+    }
+    if c.cbn < 1 {
+        return false;
+    }
+    if c.tbn < c.cbn {
+        return false;
+    }
+    let n = message_length(c);
+    let p = own_length(c);
+    if c.tbn == 1 {
+        return p == n;
+    }
+    let u = unit(c);
+    if c.cbn < c.tbn {
+        front_possible(n, c.tbn, u)
+    } else {
+        last_possible(n, c.tbn, p, u)
+    }
+}
+
+// Neither n nor p is negative, and n is at most 16,384.
+fn sizes_within(c: Cut) -> bool
+    ensures { λ r. ⌜ r ≡ sizesWithin c ⌝ }
+{
+    (HEADER <= c.ml) & (message_length(c) <= 16_384) & (64 <= c.bsize)
+}
+
+// A piece before the last.
+fn front_possible(n: u32, t: u8, u: u32) -> bool
+    requires { ⌜ 1 ≤ t ⌝ }
+    ensures { λ r. ⌜ r ≡ frontPossible n t u ⌝ }
+{
+    (256 <= u)
+        & (u <= 1_396)
+        & (((t - 1) as u64) * (u as u64) < n as u64)
+        & (n as u64 <= (t as u64) * (u as u64))
+}
+
+// The last piece of several.
+fn last_possible(n: u32, t: u8, p: u32, u: u32) -> bool
+    requires { ⌜ 2 ≤ t ⌝ }
+    ensures { λ r. ⌜ r ≡ lastPossible n t p u ⌝ }
+{
+    if n <= p {
+        return false;
+    }
+    ((n - p) % ((t - 1) as u32) == 0) & ((256 <= u) & (u <= 1_396)) & (1 <= p) & (p <= u)
+}

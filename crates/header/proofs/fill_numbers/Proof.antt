@@ -1,0 +1,48 @@
+-- The rows are written one after the other. Assumes nothing.
+use Rattle.header.specs.LayoutLaws.{fill-step, fill-last}
+use borrow.Author.Needs.{needs}
+use Rattle.header.proofs.fill_numbers.Statement.{statement}
+use Rattle.header.proofs.fill_numbers.Tie as tie
+
+write4-requires : tie.Need-write4-requires
+write4-requires c κs = search needs
+
+write4-requires-2 : tie.Need-write4-requires-2
+write4-requires-2 c κs = search needs
+
+write4-requires-3 : tie.Need-write4-requires-3
+write4-requires-3 c κs = search needs
+
+write2-requires : tie.Need-write2-requires
+write2-requires c κs = search needs
+
+write2-requires-2 : tie.Need-write2-requires-2
+write2-requires-2 c κs = search needs
+
+same-length : tie.Need-same-length
+same-length c = search needs
+
+returns : tie.Need-returns
+returns c =
+    let w5 = c .before .before in
+    let w4 = w5 .before .before .before .before in
+    let w3 = w4 .before .before .before .before in
+    let w2 = w3 .before .before .before .before in
+    let w1 = w2 .before .before .before .before in
+    fill-step _ _ _ (w1 .write4 .ensures)
+    (fill-step _ _ _ (w2 .write42 .ensures)
+    (fill-step _ _ _ (w3 .write43 .ensures)
+    (fill-step _ _ _ (w4 .write2 .ensures)
+    (fill-step _ _ _ (w5 .write22 .ensures) (fill-last _)))))
+
+pub fill-numbers-spec : {M : Type 1} → statement M
+fill-numbers-spec =
+    tie.close
+    (tie.spec
+    write4-requires
+    write4-requires-2
+    write4-requires-3
+    write2-requires
+    write2-requires-2
+    same-length
+    returns)

@@ -1,0 +1,190 @@
+-- Laws of the header: what was written reads back, and is fixed where Table 7 fixes it. Assumes nothing.
+use mathlib.Core.Path.{_≡_, refl, sym, ap, _∙_}
+use mathlib.Core.Bool.{Bool, true, false, cond, _&&_}
+use mathlib.Core.List.{List, [], _∷_, _++_, append-assoc}
+use Prim.Native.Nat.{ℕ, _+_, _-_, _^_, _≤_, _<_}
+use native.Mathlib.Nat.{zero-add}
+use native.Mathlib.Omega.{arith}
+use lib.Dec.{eqb, leb}
+use lib.ListN.{length, drop, replicate, length-replicate, getD-replicate, length-append, length-drop}
+use lib.Seq.{take-at, drop-drop, drop-append-add}
+use borrow.Author.Tests.{le-leb, lt-leb, eq-eqb}
+use Rattle.octets.specs.Number.{octet, number}
+use Rattle.octets.specs.Run.{laid}
+use Rattle.octets.specs.RunLaws.{laid-in, laid-drop, laid-fits, length-laid}
+use Rattle.octets.specs.NumberLaws.{Octets, number-bound}
+use Rattle.header.specs.declared.Head.{Head}
+use Rattle.header.specs.Layout.{Row, layout}
+use Rattle.header.specs.LayoutLaws.{Lit, done, lit, unlit, In, nth-in, fill, fill-append, fill-layout, layout-row, length-layout}
+use Rattle.header.specs.Places.{Field, place, headerSize, row, rows, places-apart, places-end}
+use Rattle.header.specs.Places.Field.{hType, ml, domain, dataField, node, da, vSeq, seq, mCtl, inqId, tcd, ver, gtid, mode, pver, pri, cbn, tbn, bsize, fui}
+use Rattle.header.specs.Head.{valueAt, value, header, headOf, headed, isFixed}
+
+-- The rows that are not fixed to 0, which is what is left to write once 64 octets were cleared.
+abbrev pub addressRows : Head → List Row
+addressRows h =
+    row hType (value h hType) ∷ row ml (value h ml) ∷ row dataField (value h dataField) ∷ row node (value h node)
+    ∷ row da (value h da) ∷ []
+
+abbrev pub numberRows : Head → List Row
+numberRows h =
+    row vSeq (value h vSeq) ∷ row seq (value h seq) ∷ row mCtl (value h mCtl) ∷ row tcd (value h tcd)
+    ∷ row mode (value h mode) ∷ []
+
+abbrev pub pieceRows : Head → List Row
+pieceRows h =
+    row pver (value h pver) ∷ row pri (value h pri) ∷ row cbn (value h cbn) ∷ row tbn (value h tbn)
+    ∷ row bsize (value h bsize) ∷ []
+
+abbrev litRows : Head → List Row
+litRows h = addressRows h ++ (numberRows h ++ pieceRows h)
+
+rows-lit : (h : Head) → Lit (rows (value h)) (litRows h)
+rows-lit h =
+    lit (lit (unlit refl (lit (lit (lit (lit (lit (lit (unlit refl (lit (unlit refl (unlit refl
+    (lit (lit (lit (lit (lit (lit (unlit refl done)))))))))))))))))))
+
+-- 64 octets cleared and the rows filled in: the header is written, and all behind it stays.
+pub cleared-filled : (s : List ℕ) (h : Head) → headerSize ≤ length s
+    → fill (litRows h) (laid s 0 (replicate headerSize 0)) ≡ headed s h
+unfolding headed header
+cleared-filled s h room =
+    let zeros : List ℕ = replicate headerSize 0 in
+    let wide : length zeros ≡ headerSize = length-replicate {A = ℕ} headerSize 0 in
+    let fits : 0 + length zeros ≤ length s = omega arith in
+    let clear : (i : ℕ) → i < headerSize → octet (laid s 0 zeros) i ≡ 0
+    = λ i q. ap (octet (laid s 0 zeros)) (sym (zero-add i)) ∙ laid-in s 0 zeros fits i (omega arith) ∙ getD-replicate {A = ℕ} headerSize i 0 0 q in
+    let behind : drop headerSize (laid s 0 zeros) ≡ drop headerSize s = laid-drop s 0 zeros fits in
+    fill-layout headerSize (rows (value h)) (litRows h) (laid s 0 zeros) (rows-lit h) (places-apart (value h)) (places-end (value h))
+    (rw (length-laid s 0 zeros) room) clear
+    ∙ rw (behind, le-leb headerSize (length s) room)
+
+pub written : (s : List ℕ) (h : Head) {a b d e : List ℕ} → headerSize ≤ length s → a ≡ laid s 0 (replicate headerSize 0)
+    → b ≡ fill (addressRows h) a → d ≡ fill (numberRows h) b → e ≡ fill (pieceRows h) d → e ≡ headed s h
+written s h {a} room w x y z =
+    z ∙ ap (fill (pieceRows h)) (y ∙ ap (fill (numberRows h)) x)
+    ∙ sym (fill-append (addressRows h) (numberRows h ++ pieceRows h) a ∙ fill-append (numberRows h) (pieceRows h) (fill (addressRows h) a))
+    ∙ ap (fill (litRows h)) w ∙ cleared-filled s h room
+
+pub length-header : (h : Head) → length (header h) ≡ headerSize
+unfolding header
+length-header h = length-layout headerSize (rows (value h))
+
+pub headed-fits : (s : List ℕ) (h : Head) → headerSize ≤ length s → headed s h ≡ header h ++ drop headerSize s
+unfolding headed
+headed-fits s h room = rw (le-leb headerSize (length s) room)
+
+-- ---- what was written reads back
+
+-- Every field has its row in the table.
+in-table : (v : Field → ℕ) (f : Field) → In (row f (v f)) (rows v)
+in-table v hType = nth-in 0 (rows v) (omega arith)
+in-table v ml = nth-in 1 (rows v) (omega arith)
+in-table v domain = nth-in 2 (rows v) (omega arith)
+in-table v dataField = nth-in 3 (rows v) (omega arith)
+in-table v node = nth-in 4 (rows v) (omega arith)
+in-table v da = nth-in 5 (rows v) (omega arith)
+in-table v vSeq = nth-in 6 (rows v) (omega arith)
+in-table v seq = nth-in 7 (rows v) (omega arith)
+in-table v mCtl = nth-in 8 (rows v) (omega arith)
+in-table v inqId = nth-in 9 (rows v) (omega arith)
+in-table v tcd = nth-in 10 (rows v) (omega arith)
+in-table v ver = nth-in 11 (rows v) (omega arith)
+in-table v gtid = nth-in 12 (rows v) (omega arith)
+in-table v mode = nth-in 13 (rows v) (omega arith)
+in-table v pver = nth-in 14 (rows v) (omega arith)
+in-table v pri = nth-in 15 (rows v) (omega arith)
+in-table v cbn = nth-in 16 (rows v) (omega arith)
+in-table v tbn = nth-in 17 (rows v) (omega arith)
+in-table v bsize = nth-in 18 (rows v) (omega arith)
+in-table v fui = nth-in 19 (rows v) (omega arith)
+
+-- A field's number reads back, if it fits into the field's octets, whatever stands behind the header.
+pub field-back : (h : Head) (t : List ℕ) (f : Field) → value h f < 256 ^ place f .1 → valueAt (header h ++ t) f ≡ value h f
+unfolding header
+field-back h t f fits =
+    layout-row headerSize (row f (value h f)) (rows (value h)) t (in-table (value h) f) (places-apart (value h)) (places-end (value h)) fits
+
+-- Each number fits into its field's octets.
+pub record Fits (h : Head) : Type 0 where
+  pub each : (f : Field) → value h f < 256 ^ place f .1
+
+pub read-back : (h : Head) (t : List ℕ) → Fits h → headOf (header h ++ t) ≡ h
+unfolding headOf
+read-back h t fits =
+    let back : (f : Field) → valueAt (header h ++ t) f ≡ value h f = λ f. field-back h t f (fits .each f) in
+    simp (back ml, back dataField, back node, back da, back vSeq, back seq, back mCtl, back tcd, back mode, back pri, back cbn, back tbn, back bsize)
+
+-- A header that was read fits.
+pub read-fits : (s : List ℕ) → Octets s → Fits (headOf s)
+unfolding headOf
+read-fits s o = record { each = fit }
+  where
+    fit : (f : Field) → value (headOf s) f < 256 ^ place f .1
+    fit hType = omega arith
+    fit ml = number-bound 4 s _ o
+    fit domain = omega arith
+    fit dataField = number-bound 1 s _ o
+    fit node = number-bound 2 s _ o
+    fit da = number-bound 4 s _ o
+    fit vSeq = number-bound 4 s _ o
+    fit seq = number-bound 4 s _ o
+    fit mCtl = number-bound 4 s _ o
+    fit inqId = omega arith
+    fit tcd = number-bound 2 s _ o
+    fit ver = omega arith
+    fit gtid = omega arith
+    fit mode = number-bound 2 s _ o
+    fit pver = omega arith
+    fit pri = number-bound 1 s _ o
+    fit cbn = number-bound 1 s _ o
+    fit tbn = number-bound 1 s _ o
+    fit bsize = number-bound 2 s _ o
+    fit fui = omega arith
+
+-- A header that was written holds what Table 7 fixes.
+pub written-fixed : (h : Head) (t : List ℕ) → isFixed (header h ++ t) ≡ true
+unfolding isFixed
+written-fixed h t =
+    let back = field-back h t in
+    simp (
+      back hType (omega arith),
+      back domain (omega arith),
+      back inqId (omega arith),
+      back ver (omega arith),
+      back gtid (omega arith),
+      back pver (omega arith),
+      back fui (omega arith),
+    )
+
+-- A header written at the front, and then a run laid down behind it: both together, laid down as one.
+pub headed-laid : (b : List ℕ) (h : Head) (p : List ℕ) → headerSize + length p ≤ length b
+    → laid (headed b h) headerSize p ≡ laid b 0 (header h ++ p)
+headed-laid b h p room = two-runs ∙ sym one-run
+  where
+    wide : length (header h) ≡ headerSize
+    wide = length-header h
+
+    front : headed b h ≡ header h ++ drop headerSize b
+    front = headed-fits b h (omega arith)
+
+    short : headerSize + length p ≤ length (header h ++ drop headerSize b)
+    short = rw (length-append (header h) (drop headerSize b), wide, length-drop headerSize b) (omega arith)
+
+    behind : drop (headerSize + length p) (header h ++ drop headerSize b) ≡ drop (headerSize + length p) b
+    behind =
+        ap (λ (k : ℕ). drop (k + length p) (header h ++ drop headerSize b)) (sym wide)
+        ∙ drop-append-add (header h) (drop headerSize b) (length p) ∙ drop-drop (length p) headerSize b
+
+    two-runs : laid (headed b h) headerSize p ≡ header h ++ (p ++ drop (headerSize + length p) b)
+    two-runs =
+        ap (λ (l : List ℕ). laid l headerSize p) front ∙ laid-fits (header h ++ drop headerSize b) headerSize p short
+        ∙ rw (take-at (header h) (drop headerSize b) headerSize wide, behind)
+
+    both : length (header h ++ p) ≡ headerSize + length p
+    both = length-append (header h) p ∙ rw wide
+
+    one-run : laid b 0 (header h ++ p) ≡ header h ++ (p ++ drop (headerSize + length p) b)
+    one-run =
+        laid-fits b 0 (header h ++ p) (rw both (omega arith))
+        ∙ rw (both, zero-add (headerSize + length p), append-assoc (header h) p (drop (headerSize + length p) b))

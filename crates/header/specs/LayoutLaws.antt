@@ -1,0 +1,347 @@
+-- Laws of layouts, over any rows that do not overlap: what is written row by row is the layout, and each row reads back. Assumes nothing.
+use mathlib.Core.Path.{_≡_, refl, sym, ap, _∙_}
+use mathlib.Core.Logic.{_⊎_, inl, inr, ⊎-elim}
+use mathlib.Core.Bool.{Bool, true, false, cond, _&&_, _||_}
+use mathlib.Core.List.{List, [], _∷_, _++_}
+use Prim.Native.Nat.{ℕ, zero, suc, _+_, _-_, _^_, _≤_, _<_}
+use native.Mathlib.Nat.{zero-div, zero-mod}
+use native.Mathlib.Omega.{arith}
+use lib.Dec.{leb, ltb}
+use lib.ListN.{length, drop, length-append, length-drop, List·getD-append}
+use lib.Seq.{ext-getD, getD-at, getD-append-add, getD-drop}
+use borrow.Author.Tests.{leb-true, ltb-true, le-leb, lt-leb, lt-ltb, le-ltb}
+use Rattle.octets.specs.Number.{octet, number, octets}
+use Rattle.octets.specs.NumberLaws.{length-octets, number-ext, number-octets-fits}
+use Rattle.octets.specs.Run.{laid}
+use Rattle.octets.specs.RunLaws.{laid-in, laid-out, length-laid}
+use Rattle.octets.specs.Split.{lt-or-le, true-or-false, never-both, both, not-both, and-left, and-right, either}
+use Rattle.header.specs.Layout.{Row, end, holds, octetOf, tabulate, layout, apartFrom, apart, endsBy, held, covers}
+
+-- ---- tabulated lists
+
+pub length-tabulate : (n : ℕ) (f : ℕ → ℕ) → length (tabulate n f) ≡ n
+unfolding tabulate
+length-tabulate zero f = refl
+length-tabulate (suc n) f = rw (length-append (tabulate n f) (f n ∷ []), length-tabulate n f) (omega arith)
+
+pub octet-tabulate : (n : ℕ) (f : ℕ → ℕ) (i : ℕ) → i < n → octet (tabulate n f) i ≡ f i
+unfolding tabulate
+octet-tabulate zero f i h = absurd (omega arith)
+octet-tabulate (suc n) f i h = ⊎-elim
+    (λ (l : i < n). List·getD-append (tabulate n f) (f n ∷ []) 0 i (omega (arith, length-tabulate n f)) ∙ octet-tabulate n f i l)
+    (λ (l : n ≤ i).
+    let e : i ≡ n = omega arith in
+    rw e (getD-at (tabulate n f) (f n) [] 0 n (length-tabulate n f)))
+    (lt-or-le i n)
+
+pub length-layout : (n : ℕ) (rs : List Row) → length (layout n rs) ≡ n
+unfolding layout
+length-layout n rs = length-tabulate n (octetOf rs 0)
+
+pub octet-layout : (n : ℕ) (rs : List Row) (i : ℕ) → i < n → octet (layout n rs) i ≡ octetOf rs 0 i
+unfolding layout
+octet-layout n rs i h = octet-tabulate n (octetOf rs 0) i h
+
+-- ---- which row holds a place
+
+holds-from : (r : Row) (i : ℕ) → holds r i ≡ true → r .start ≤ i
+holds-from r i e = leb-true (r .start) i (and-left (leb (r .start) i) (ltb i (end r)) e)
+
+holds-to : (r : Row) (i : ℕ) → holds r i ≡ true → i < end r
+holds-to r i e = ltb-true i (end r) (and-right (leb (r .start) i) (ltb i (end r)) e)
+
+pub in-row : (r : Row) (i : ℕ) → r .start ≤ i → i < end r → holds r i ≡ true
+in-row r i a b = both (leb (r .start) i) (ltb i (end r)) (le-leb (r .start) i a) (lt-ltb i (end r) b)
+
+past-row : (r : Row) (i : ℕ) → (i < r .start) ⊎ (end r ≤ i) → holds r i ≡ false
+past-row r i o = not-both (leb (r .start) i) (ltb i (end r)) (λ a b.
+    let x : r .start ≤ i = leb-true (r .start) i a in
+    let y : i < end r = ltb-true i (end r) b in
+    ⊎-elim (λ (h : i < r .start). omega arith) (λ (h : end r ≤ i). omega arith) o)
+
+-- A place that one row holds is held by none that is apart from it.
+apart-one : (r q : Row) (i : ℕ) → leb (end r) (q .start) || leb (end q) (r .start) ≡ true → holds r i ≡ true → holds q i ≡ false
+apart-one r q i e h =
+    let a = holds-from r i h in
+    let b = holds-to r i h in
+    ⊎-elim
+    (λ (x : leb (end r) (q .start) ≡ true). past-row q i (inl (let y = leb-true (end r) (q .start) x in omega arith)))
+    (λ (x : leb (end q) (r .start) ≡ true). past-row q i (inr (let y = leb-true (end q) (r .start) x in omega arith)))
+    (either (leb (end r) (q .start)) (leb (end q) (r .start)) e)
+
+octetOf-held : (r : Row) (rs : List Row) (z i : ℕ) → holds r i ≡ true
+    → octetOf (r ∷ rs) z i ≡ octet (octets (r .size) (r .value)) (i - r .start)
+unfolding octetOf
+octetOf-held r rs z i e = rw e
+
+octetOf-past : (r : Row) (rs : List Row) (z i : ℕ) → holds r i ≡ false → octetOf (r ∷ rs) z i ≡ octetOf rs z i
+unfolding octetOf
+octetOf-past r rs z i e = rw e
+
+module _ (r : Row) (q : Row) (rs : List Row) (a : apartFrom r (q ∷ rs) ≡ true) where
+  apart-head : leb (end r) (q .start) || leb (end q) (r .start) ≡ true
+  unfolding apartFrom
+  apart-head = and-left (leb (end r) (q .start) || leb (end q) (r .start)) (apartFrom r rs) a
+
+  apart-tail : apartFrom r rs ≡ true
+  unfolding apartFrom
+  apart-tail = and-right (leb (end r) (q .start) || leb (end q) (r .start)) (apartFrom r rs) a
+
+apart-cons : (r q : Row) (rs : List Row) → leb (end r) (q .start) || leb (end q) (r .start) ≡ true → apartFrom r rs ≡ true → apartFrom r (q ∷ rs) ≡ true
+unfolding apartFrom
+apart-cons r q rs a b = both (leb (end r) (q .start) || leb (end q) (r .start)) (apartFrom r rs) a b
+
+octetOf-none : (r : Row) (rs : List Row) (z i : ℕ) → apartFrom r rs ≡ true → holds r i ≡ true → octetOf rs z i ≡ z
+octetOf-none r [] z i a h = unfold octetOf in refl
+octetOf-none r (q ∷ rs) z i a h =
+    octetOf-past q rs z i (apart-one r q i (apart-head r q rs a) h) ∙ octetOf-none r rs z i (apart-tail r q rs a) h
+
+module _ (r : Row) (rs : List Row) (a : apart (r ∷ rs) ≡ true) where
+  apart-first : apartFrom r rs ≡ true
+  unfolding apart
+  apart-first = and-left (apartFrom r rs) (apart rs) a
+
+  apart-rest : apart rs ≡ true
+  unfolding apart
+  apart-rest = and-right (apartFrom r rs) (apart rs) a
+
+ends-cons : (n : ℕ) (r : Row) (rs : List Row) → end r ≤ n → endsBy n rs ≡ true → endsBy n (r ∷ rs) ≡ true
+unfolding endsBy
+ends-cons n r rs h b = both (leb (end r) n) (endsBy n rs) (le-leb (end r) n h) b
+
+module _ (n : ℕ) (r : Row) (rs : List Row) (b : endsBy n (r ∷ rs) ≡ true) where
+  ends-first : end r ≤ n
+  unfolding endsBy
+  ends-first = leb-true (end r) n (and-left (leb (end r) n) (endsBy n rs) b)
+
+  ends-rest : endsBy n rs ≡ true
+  unfolding endsBy
+  ends-rest = and-right (leb (end r) n) (endsBy n rs) b
+
+ends-more : (n k : ℕ) (rs : List Row) → n ≤ k → endsBy n rs ≡ true → endsBy k rs ≡ true
+unfolding endsBy
+ends-more n k [] h b = refl
+ends-more n k (r ∷ rs) h b =
+    let f = ends-first n r rs b in
+    both (leb (end r) k) (endsBy k rs) (le-leb (end r) k (omega arith)) (ends-more n k rs h (ends-rest n r rs b))
+
+-- Past the end of every row the octet is what it was.
+octetOf-above : (n : ℕ) (rs : List Row) (z i : ℕ) → endsBy n rs ≡ true → n ≤ i → octetOf rs z i ≡ z
+octetOf-above n [] z i b h = unfold octetOf in refl
+octetOf-above n (r ∷ rs) z i b h =
+    octetOf-past r rs z i (past-row r i (inr (let x = ends-first n r rs b in omega arith)))
+    ∙ octetOf-above n rs z i (ends-rest n r rs b) h
+
+-- ---- writing row by row
+
+-- The rows' numbers written one after the other.
+unfoldable pub fill : List Row → List ℕ → List ℕ
+fill [] s = s
+fill (r ∷ rs) s = fill rs (laid s (r .start) (octets (r .size) (r .value)))
+
+fill-cons : (r : Row) (rs : List Row) (s : List ℕ) → fill (r ∷ rs) s ≡ fill rs (laid s (r .start) (octets (r .size) (r .value)))
+unfolding fill
+fill-cons r rs s = refl
+
+-- One row written, and then the others.
+pub fill-step : (s : List ℕ) {l m : List ℕ} (r : Row) (rs : List Row) → l ≡ laid s (r .start) (octets (r .size) (r .value)) → m ≡ fill rs l → m ≡ fill (r ∷ rs) s
+fill-step s r rs e f = f ∙ ap (fill rs) e ∙ sym (fill-cons r rs s)
+
+pub fill-last : (l : List ℕ) → l ≡ fill [] l
+unfolding fill
+fill-last l = refl
+
+pub fill-append : (ps qs : List Row) (s : List ℕ) → fill (ps ++ qs) s ≡ fill qs (fill ps s)
+unfolding fill
+fill-append [] qs s = refl
+fill-append (p ∷ ps) qs s = fill-append ps qs (laid s (p .start) (octets (p .size) (p .value)))
+
+pub length-fill : (rs : List Row) (s : List ℕ) → length (fill rs s) ≡ length s
+unfolding fill
+length-fill [] s = refl
+length-fill (r ∷ rs) s =
+    length-fill rs (laid s (r .start) (octets (r .size) (r .value))) ∙ length-laid s (r .start) (octets (r .size) (r .value))
+
+module _ (r : Row) (s : List ℕ) (fits : end r ≤ length s) where
+  run : List ℕ
+  run = octets (r .size) (r .value)
+
+  wide : length run ≡ r .size
+  unfolding run
+  wide = length-octets (r .size) (r .value)
+
+  row-in : (i : ℕ) → holds r i ≡ true → octet (laid s (r .start) run) i ≡ octet run (i - r .start)
+  row-in i h =
+      let a = holds-from r i h in
+      let b = holds-to r i h in
+      let e : r .start + (i - r .start) ≡ i = omega arith in
+      ap (octet (laid s (r .start) run)) (sym e)
+      ∙ laid-in s (r .start) run (omega (arith, wide)) (i - r .start) (omega (arith, wide))
+
+  row-out : (i : ℕ) → holds r i ≡ false → octet (laid s (r .start) run) i ≡ octet s i
+  row-out i h = laid-out s (r .start) run (omega (arith, wide)) i (side (lt-or-le i (r .start)))
+    where
+      side : (i < r .start) ⊎ (r .start ≤ i) → (i < r .start) ⊎ (r .start + length run ≤ i)
+      side (inl a) = inl a
+      side (inr a) = inr (⊎-elim
+          (λ (b : i < end r). absurd (never-both (in-row r i a b) h))
+          (λ (b : end r ≤ i). omega (arith, wide))
+          (lt-or-le i (end r)))
+
+fill-none : (s : List ℕ) (i : ℕ) → octet (fill [] s) i ≡ octetOf [] (octet s i) i
+unfolding fill octetOf
+fill-none s i = refl
+
+-- What is read at a place afterwards.
+pub fill-octet : (rs : List Row) (s : List ℕ) (i : ℕ) → apart rs ≡ true → endsBy (length s) rs ≡ true
+    → octet (fill rs s) i ≡ octetOf rs (octet s i) i
+unfolding run
+fill-octet [] s i a b = fill-none s i
+fill-octet (r ∷ rs) s i a b =
+    let t = laid s (r .start) (octets (r .size) (r .value)) in
+    let l : length t ≡ length s = length-laid s (r .start) (octets (r .size) (r .value)) in
+    let c : endsBy (length t) rs ≡ true = rw l (ends-rest (length s) r rs b) in
+    let f = ends-first (length s) r rs b in
+    ap (λ (l : List ℕ). octet l i) (fill-cons r rs s) ∙ fill-octet rs t i (apart-rest r rs a) c
+    ∙ ⊎-elim
+    (λ (h : holds r i ≡ true).
+    octetOf-none r rs (octet t i) i (apart-first r rs a) h ∙ row-in r s f i h ∙ sym (octetOf-held r rs (octet s i) i h))
+    (λ (h : holds r i ≡ false).
+    ap (λ (z : ℕ). octetOf rs z i) (row-out r s f i h) ∙ sym (octetOf-past r rs (octet s i) i h))
+    (true-or-false (holds r i))
+
+-- ---- rows that hold 0 need not be written where all is 0
+
+pub data Lit : List Row → List Row → Type 0 where
+  done : Lit [] []
+  lit : {r : Row} {rs qs : List Row} → Lit rs qs → Lit (r ∷ rs) (r ∷ qs)
+  unlit : {r : Row} {rs qs : List Row} → r .value ≡ 0 → Lit rs qs → Lit (r ∷ rs) qs
+
+octets-zero : (w k : ℕ) → octet (octets w 0) k ≡ 0
+unfolding octets
+octets-zero zero k = refl
+octets-zero (suc w) k =
+    rw (zero-div 256, zero-mod 256) (⊎-elim
+    (λ (h : k < w). List·getD-append (octets w 0) (0 ∷ []) 0 k (omega (arith, length-octets w 0)) ∙ octets-zero w k)
+    (λ (h : w ≤ k).
+    let e : length (octets w 0) + (k - w) ≡ k = omega (arith, length-octets w 0) in
+    ap (octet (octets w 0 ++ (0 ∷ []))) (sym e) ∙ getD-append-add (octets w 0) (0 ∷ []) (k - w) 0 ∙ alone (k - w))
+    (lt-or-le k w))
+  where
+    alone : (j : ℕ) → octet (0 ∷ []) j ≡ 0
+    alone zero = refl
+    alone (suc j) = refl
+
+lit-octet : {rs qs : List Row} (i : ℕ) → Lit rs qs → apart rs ≡ true → octetOf rs 0 i ≡ octetOf qs 0 i
+lit-octet i done a = refl
+lit-octet i (lit {r = r} {rs = rs} {qs = qs} m) a = ⊎-elim
+    (λ (h : holds r i ≡ true). octetOf-held r rs 0 i h ∙ sym (octetOf-held r qs 0 i h))
+    (λ (h : holds r i ≡ false). octetOf-past r rs 0 i h ∙ lit-octet i m (apart-rest r rs a) ∙ sym (octetOf-past r qs 0 i h))
+    (true-or-false (holds r i))
+lit-octet i (unlit {r = r} {rs = rs} {qs = qs} e m) a =
+    let rest = lit-octet i m (apart-rest r rs a) in
+    ⊎-elim
+    (λ (h : holds r i ≡ true).
+    octetOf-held r rs 0 i h ∙ rw e (octets-zero (r .size) (i - r .start)) ∙ sym (octetOf-none r rs 0 i (apart-first r rs a) h) ∙ rest)
+    (λ (h : holds r i ≡ false). octetOf-past r rs 0 i h ∙ rest)
+    (true-or-false (holds r i))
+
+lit-ends : {rs qs : List Row} (n : ℕ) → Lit rs qs → endsBy n rs ≡ true → endsBy n qs ≡ true
+lit-ends n done b = b
+lit-ends n (lit {r = r} {rs = rs} {qs = qs} m) b =
+    ends-cons n r qs (ends-first n r rs b) (lit-ends n m (ends-rest n r rs b))
+lit-ends n (unlit {r = r} {rs = rs} e m) b = lit-ends n m (ends-rest n r rs b)
+
+lit-apartFrom : {rs qs : List Row} (p : Row) → Lit rs qs → apartFrom p rs ≡ true → apartFrom p qs ≡ true
+lit-apartFrom p done a = a
+lit-apartFrom p (lit {r = r} {rs = rs} {qs = qs} m) a =
+    apart-cons p r qs (apart-head p r rs a) (lit-apartFrom p m (apart-tail p r rs a))
+lit-apartFrom p (unlit {r = r} {rs = rs} e m) a = lit-apartFrom p m (apart-tail p r rs a)
+
+lit-apart : {rs qs : List Row} → Lit rs qs → apart rs ≡ true → apart qs ≡ true
+unfolding apart
+lit-apart done a = a
+lit-apart (lit {r = r} {rs = rs} {qs = qs} m) a =
+    both (apartFrom r qs) (apart qs) (lit-apartFrom r m (apart-first r rs a)) (lit-apart m (apart-rest r rs a))
+lit-apart (unlit {r = r} {rs = rs} e m) a = lit-apart m (apart-rest r rs a)
+
+-- Where the first n octets are 0, writing the rows that hold something makes them the layout, and all behind stays.
+pub fill-layout : (n : ℕ) (rs qs : List Row) (s : List ℕ) → Lit rs qs → apart rs ≡ true → endsBy n rs ≡ true → n ≤ length s
+    → ((i : ℕ) → i < n → octet s i ≡ 0) → fill qs s ≡ layout n rs ++ drop n s
+fill-layout n rs qs s m a b room clear = ext-getD 0 (fill qs s) (layout n rs ++ drop n s) same-length same-octet
+  where
+    same-length : length (fill qs s) ≡ length (layout n rs ++ drop n s)
+    same-length = length-fill qs s ∙ sym (length-append (layout n rs) (drop n s) ∙ omega (arith, length-layout n rs, length-drop n s))
+
+    short : endsBy (length s) qs ≡ true
+    short = ends-more n (length s) qs room (lit-ends n m b)
+
+    filled : (i : ℕ) → octet (fill qs s) i ≡ octetOf qs (octet s i) i
+    filled i = fill-octet qs s i (lit-apart m a) short
+
+    same-octet : (i : ℕ) → i < length (fill qs s) → octet (fill qs s) i ≡ octet (layout n rs ++ drop n s) i
+    same-octet i h = ⊎-elim
+        (λ (l : i < n).
+        filled i ∙ ap (λ (z : ℕ). octetOf qs z i) (clear i l) ∙ sym (lit-octet i m a) ∙ sym (octet-layout n rs i l)
+        ∙ sym (List·getD-append (layout n rs) (drop n s) 0 i (omega (arith, length-layout n rs))))
+        (λ (l : n ≤ i).
+        let e : length (layout n rs) + (i - n) ≡ i = omega (arith, length-layout n rs) in
+        let f : n + (i - n) ≡ i = omega arith in
+        filled i ∙ octetOf-above n qs (octet s i) i (lit-ends n m b) l
+        ∙ sym (ap (octet (layout n rs ++ drop n s)) (sym e) ∙ getD-append-add (layout n rs) (drop n s) (i - n) 0
+        ∙ getD-drop n s (i - n) 0 ∙ ap (octet s) f))
+        (lt-or-le i n)
+
+-- ---- reading back
+
+pub data In (r : Row) : List Row → Type 0 where
+  here : {rs : List Row} → In r (r ∷ rs)
+  there : {q : Row} {rs : List Row} → In r rs → In r (q ∷ rs)
+
+-- The row at a position of a list.
+abbrev pub nth : ℕ → List Row → Row
+nth k [] = record { start = 0; size = 0; value = 0 }
+nth zero (r ∷ rs) = r
+nth (suc k) (r ∷ rs) = nth k rs
+
+pub nth-in : (k : ℕ) (rs : List Row) → k < length rs → In (nth k rs) rs
+nth-in k [] h = absurd (omega arith)
+nth-in zero (r ∷ rs) h = here
+nth-in (suc k) (r ∷ rs) h = there (nth-in k rs (omega arith))
+
+in-apart : {r : Row} {rs : List Row} (q : Row) → In r rs → apartFrom q rs ≡ true → leb (end q) (r .start) || leb (end r) (q .start) ≡ true
+in-apart {r = r} q (here {rs = rs}) a = apart-head q r rs a
+in-apart q (there {q = p} {rs = rs} m) a = in-apart q m (apart-tail q p rs a)
+
+or-swap : (a b : Bool) → a || b ≡ true → b || a ≡ true
+or-swap true true e = refl
+or-swap true false e = refl
+or-swap false true e = refl
+or-swap false false e = e
+
+octetOf-in : {r : Row} {rs : List Row} (i : ℕ) → In r rs → apart rs ≡ true → holds r i ≡ true
+    → octetOf rs 0 i ≡ octet (octets (r .size) (r .value)) (i - r .start)
+octetOf-in {r = r} i (here {rs = rs}) a h = octetOf-held r rs 0 i h
+octetOf-in {r = r} i (there {q = q} {rs = rs} m) a h =
+    let x = or-swap (leb (end q) (r .start)) (leb (end r) (q .start)) (in-apart q m (apart-first q rs a)) in
+    octetOf-past q rs 0 i (apart-one r q i x h) ∙ octetOf-in i m (apart-rest q rs a) h
+
+in-ends : {r : Row} {rs : List Row} (n : ℕ) → In r rs → endsBy n rs ≡ true → end r ≤ n
+in-ends {r = r} n (here {rs = rs}) b = ends-first n r rs b
+in-ends n (there {q = q} {rs = rs} m) b = in-ends n m (ends-rest n q rs b)
+
+-- Each row of a layout reads back, whatever stands behind it.
+pub layout-row : (n : ℕ) (r : Row) (rs : List Row) (t : List ℕ) → In r rs → apart rs ≡ true → endsBy n rs ≡ true → r .value < 256 ^ r .size
+    → number (r .size) (layout n rs ++ t) (r .start) ≡ r .value
+layout-row n r rs t m a b h =
+    number-ext (r .size) (layout n rs ++ t) (octets (r .size) (r .value)) (r .start) 0 same
+    ∙ number-octets-fits (r .size) (r .value) h
+  where
+    same : (k : ℕ) → k < r .size → octet (layout n rs ++ t) (r .start + k) ≡ octet (octets (r .size) (r .value)) (0 + k)
+    same k q =
+        let e = in-ends n m b in
+        let f : r .start + k - r .start ≡ 0 + k = omega arith in
+        List·getD-append (layout n rs) t 0 (r .start + k) (omega (arith, length-layout n rs))
+        ∙ octet-layout n rs (r .start + k) (omega arith)
+        ∙ octetOf-in (r .start + k) m a (in-row r (r .start + k) (omega arith) (omega arith))
+        ∙ ap (octet (octets (r .size) (r .value))) f

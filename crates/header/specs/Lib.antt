@@ -1,0 +1,7 @@
+pub mod Layout
+pub mod LayoutLaws
+pub mod Places
+pub mod Head
+pub mod HeadLaws
+pub mod Codes
+pub mod CodesLaws
