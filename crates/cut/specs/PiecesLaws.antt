@@ -3,7 +3,7 @@ use mathlib.Core.Path.{_≡_, refl, sym, ap, ap₂, _∙_}
 use mathlib.Core.Logic.{_≢_, _⊎_, inl, inr, ⊎-elim}
 use mathlib.Core.List.{List, [], _++_}
 use Prim.Native.Nat.{ℕ, zero, suc, _+_, _-_, _*_, _/_, _≤_, _<_, min}
-use native.Mathlib.Nat.{suc-mul, mul-le-mul, mul-le-mul-right, lt-div-mul-add, div-mul-le-self, zero-mul}
+use native.Mathlib.Nat.{suc-mul, mul-le-mul, mul-le-mul-right, lt-of-le-of-lt, lt-div-mul-add, div-mul-le-self, zero-mul}
 use native.Mathlib.Omega.{arith}
 use lib.ListN.{length, take}
 use lib.Seq.{take-all}
@@ -18,8 +18,8 @@ times zero u h = omega arith
 times (suc t) u h = let z : suc t - 1 ≡ t = omega arith in rw (z, suc-mul t u)
 
 -- A product of bounded numbers is bounded.
-pub product-most : (a b k l : ℕ) → a ≤ k → b ≤ l → a * b ≤ k * l
-product-most a b k l h g = mul-le-mul {n₁ = a} {m₁ = b} {n₂ = k} {m₂ = l} h g
+pub product-below : (a b k l : ℕ) {m : ℕ} → a ≤ k → b ≤ l → k * l < m → a * b < m
+product-below a b k l h g f = lt-of-le-of-lt (mul-le-mul {n₁ = a} {m₁ = b} {n₂ = k} {m₂ = l} h g) f
 
 -- ---- how many
 

@@ -1,6 +1,6 @@
 // Whether a PDU's cut is possible, and what it says of the piece: by ML, BSIZE, CBN and TBN alone.
 ghost use mathlib.Core.Path.{_≡_};
-ghost use Prim.Native.Nat.{_-_, _≤_};
+ghost use Prim.Native.Nat.{_-_, _/_, _≤_};
 ghost use Rattle.cut.specs.Possible.{messageLength, ownLength, unit as unitOf, place as placeOf, sizesWithin, frontPossible, lastPossible, possible as isPossible};
 use header::Cut;
 
@@ -34,10 +34,17 @@ pub fn unit(c: Cut) -> u32
     if c.tbn == 1 {
         return message_length(c);
     }
-    if c.cbn < c.tbn {
-        return own_length(c);
+    if c.tbn <= c.cbn {
+        return last_unit(c);
     }
-    if c.tbn == 0 {
+    own_length(c)
+}
+
+// u by the last piece: what stands before it, shared out among the others.
+fn last_unit(c: Cut) -> u32
+    ensures { λ r. ⌜ r ≡ (messageLength c - ownLength c) / (c .tbn - 1) ⌝ }
+{
+    if c.tbn <= 1 {
         return 0;
     }
     less(message_length(c), own_length(c)) / ((c.tbn - 1) as u32)

@@ -106,14 +106,14 @@ pub fn write2(s: &mut [u8], at: usize, x: u16)
     lay(s, at, &run);
 }
 
-pub fn write4(s: &mut [u8], at: usize, x: u32)
-    ensures { λ _. ⌜ now (s .exit) ≡ laid (now (s .entry)) at (octets 4 x) ⌝ }
+pub fn write4(s: &mut [u8], at: usize, word: u32)
+    ensures { λ _. ⌜ now (s .exit) ≡ laid (now (s .entry)) at (octets 4 word) ⌝ }
 {
     let run = [
-        (x / 256 / 256 / 256 % 256) as u8,
-        (x / 256 / 256 % 256) as u8,
-        (x / 256 % 256) as u8,
-        (x % 256) as u8,
+        (word / 256 / 256 / 256 % 256) as u8,
+        (word / 256 / 256 % 256) as u8,
+        (word / 256 % 256) as u8,
+        (word % 256) as u8,
     ];
     lay(s, at, &run);
 }

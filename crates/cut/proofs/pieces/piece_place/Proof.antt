@@ -2,7 +2,7 @@
 use mathlib.Core.Path.{_≡_, refl, sym, ap, _∙_}
 use Prim.Native.Nat.{_-_, _*_, _≤_}
 use native.Mathlib.Nat.{zero-mul}
-use Rattle.cut.specs.PiecesLaws.{product-most}
+use Rattle.cut.specs.PiecesLaws.{product-below}
 use native.Mathlib.Omega.{arith}
 use borrow.Author.Needs.{needs}
 use Rattle.cut.proofs.pieces.piece_place.Statement.{statement}
@@ -18,10 +18,7 @@ cast-result : tie.Need-cast-result
 cast-result c = search needs
 
 mul-result : tie.Need-mul-result
-mul-result c =
-    let a = c .before .args in
-    let h : (a .c - 1) * a .u ≤ 255 * 65535 = product-most _ _ 255 65535 (omega arith) (omega arith) in
-    omega arith
+mul-result c = record { fits = product-below _ _ 255 65535 (omega arith) (omega arith) (omega arith) }
 
 returns-2 : tie.Need-returns-2
 returns-2 c = search needs

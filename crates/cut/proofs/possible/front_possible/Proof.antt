@@ -1,7 +1,7 @@
 -- The test is that of the definition. Assumes nothing.
 use mathlib.Core.Path.{_≡_, refl, sym, ap, _∙_}
 use Prim.Native.Nat.{_-_, _*_, _≤_}
-use Rattle.cut.specs.PiecesLaws.{product-most}
+use Rattle.cut.specs.PiecesLaws.{product-below}
 use native.Mathlib.Omega.{arith}
 use Rattle.cut.specs.Possible.{frontPossible}
 use borrow.Author.Needs.{needs}
@@ -15,16 +15,10 @@ cast-result : tie.Need-cast-result
 cast-result c = search needs
 
 mul-result : tie.Need-mul-result
-mul-result c =
-    let a = c .args in
-    let h : (a .t - 1) * a .u ≤ 255 * 4294967295 = product-most _ _ 255 4294967295 (omega arith) (omega arith) in
-    omega arith
+mul-result c = record { fits = product-below _ _ 255 4294967295 (omega arith) (omega arith) (omega arith) }
 
 mul-result-2 : tie.Need-mul-result-2
-mul-result-2 c =
-    let a = c .args in
-    let h : a .t * a .u ≤ 255 * 4294967295 = product-most _ _ 255 4294967295 (omega arith) (omega arith) in
-    omega arith
+mul-result-2 c = record { fits = product-below _ _ 255 4294967295 (omega arith) (omega arith) (omega arith) }
 
 returns : tie.Need-returns
 unfolding frontPossible

@@ -2,7 +2,7 @@
 use mathlib.Core.Path.{_≡_, refl, sym, ap, _∙_}
 use Prim.Native.Nat.{ℕ, _-_, _*_, _≤_}
 use native.Mathlib.Nat.{zero-mul}
-use Rattle.cut.specs.PiecesLaws.{product-most}
+use Rattle.cut.specs.PiecesLaws.{product-below}
 use native.Mathlib.Omega.{arith}
 use Rattle.cut.specs.Possible.{unit}
 use borrow.Author.Needs.{needs}
@@ -28,10 +28,7 @@ cast-result-2 : tie.Need-cast-result-2
 cast-result-2 c = search needs
 
 mul-result : tie.Need-mul-result
-mul-result c =
-    let a = c .before .before .before .before .args in
-    let h : (a .c .cbn - 1) * c .unit .result ≤ 255 * 4294967295 = product-most _ _ 255 4294967295 (omega arith) (omega arith) in
-    omega arith
+mul-result c = record { fits = product-below _ _ 255 4294967295 (omega arith) (omega arith) (omega arith) }
 
 returns-2 : tie.Need-returns-2
 returns-2 c = rw (c .unit .ensures)
