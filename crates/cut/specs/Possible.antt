@@ -37,6 +37,10 @@ frontPossible n t u = isUnit u && ltb ((t - 1) * u) n && leb n (t * u)
 unfoldable pub lastPossible : ℕ → ℕ → ℕ → ℕ → Bool
 lastPossible n t p u = ltb p n && eqb ((n - p) % (t - 1)) 0 && isUnit u && leb 1 p && leb p u
 
+-- Whether n octets can be cut into t pieces of u, t more than one: what a piece before the last says of the message.
+unfoldable pub severalPossible : ℕ → ℕ → ℕ → Bool
+severalPossible n t u = ltb 1 t && leb n mostOctets && frontPossible n t u
+
 -- "Needed: 0 ≤ n ≤ 16,384": neither n nor p may be negative.
 abbrev pub sizesWithin : Cut → Bool
 sizesWithin c = leb headerSize (c .ml) && leb (messageLength c) mostOctets && leb headerSize (c .bsize)

@@ -12,7 +12,7 @@ use Rattle.header.specs.declared.Cut.{Cut}
 use Rattle.header.specs.Places.{headerSize}
 use Rattle.cut.specs.Pieces.{mostOctets, leastUnit, mostUnit, pieces, piecePlace, pieceLength}
 use Rattle.cut.specs.PiecesLaws.{times, pieces-one, pieces-two, pieces-cover, pieces-below, pieces-only, pieces-most, pieces-some, length-front, length-last, length-only, place-within, piece-end, length-most}
-use Rattle.cut.specs.Possible.{messageLength, ownLength, unit, place, isUnit, frontPossible, lastPossible, possible}
+use Rattle.cut.specs.Possible.{messageLength, ownLength, unit, place, isUnit, frontPossible, lastPossible, severalPossible, possible}
 
 -- ---- what a possible cut says
 
@@ -185,4 +185,81 @@ possible-within c e =
     let w = f .wide h .0 in
     let q = piece-end (messageLength c) (unit c) (c .cbn) (omega arith) (f .one) (rw (f .cut .count) (f .top)) in
     omega (arith, f .cut .own))
+    (eq-or-ne (c .tbn) 1)
+
+-- ---- several pieces
+
+-- n octets in t pieces of u, t more than one
+pub record Several (n t u : ℕ) : Type 0 where
+  pub two : 2 ≤ t
+  pub big : n ≤ mostOctets
+  pub low : leastUnit ≤ u
+  pub high : u ≤ mostUnit
+  pub below : (t - 1) * u < n
+  pub cover : n ≤ t * u
+
+pub several-facts : (n t u : ℕ) → severalPossible n t u ≡ true → Several n t u
+unfolding severalPossible frontPossible
+several-facts n t u e =
+    let front = isUnit u && ltb ((t - 1) * u) n && leb n (t * u) in
+    let x = and-left (ltb 1 t && leb n mostOctets) front e in
+    let y = and-right (ltb 1 t && leb n mostOctets) front e in
+    let z = and-left (isUnit u && ltb ((t - 1) * u) n) (leb n (t * u)) y in
+    let w = and-left (isUnit u) (ltb ((t - 1) * u) n) z in
+    record {
+      two = ltb-true 1 t (and-left (ltb 1 t) (leb n mostOctets) x);
+      big = leb-true n mostOctets (and-right (ltb 1 t) (leb n mostOctets) x);
+      low = leb-true leastUnit u (and-left (leb leastUnit u) (leb u mostUnit) w);
+      high = leb-true u mostUnit (and-right (leb leastUnit u) (leb u mostUnit) w);
+      below = ltb-true ((t - 1) * u) n (and-right (isUnit u) (ltb ((t - 1) * u) n) z);
+      cover = leb-true n (t * u) (and-right (isUnit u && ltb ((t - 1) * u) n) (leb n (t * u)) y);
+    }
+
+pub several-of : (n t u : ℕ) → Several n t u → severalPossible n t u ≡ true
+unfolding severalPossible frontPossible
+several-of n t u s =
+    both (ltb 1 t && leb n mostOctets) (isUnit u && ltb ((t - 1) * u) n && leb n (t * u))
+    (both (ltb 1 t) (leb n mostOctets) (lt-ltb 1 t (s .two)) (le-leb n mostOctets (s .big)))
+    (both (isUnit u && ltb ((t - 1) * u) n) (leb n (t * u))
+    (both (isUnit u) (ltb ((t - 1) * u) n)
+    (both (leb leastUnit u) (leb u mostUnit) (le-leb leastUnit u (s .low)) (le-leb u mostUnit (s .high)))
+    (lt-ltb ((t - 1) * u) n (s .below)))
+    (le-leb n (t * u) (s .cover)))
+
+pub several-count : (n t u : ℕ) → Several n t u → pieces n u ≡ t
+several-count n t u s = pieces-only n u t (s .two) (s .below) (s .cover) (omega (arith, s .low))
+
+pub several-most : (n t u : ℕ) → Several n t u → t ≤ 64
+several-most n t u s = rw (several-count n t u s) at (pieces-most n u (s .big) (s .low))
+
+-- Every piece of several says of the message what the first does.
+pub possible-several : (c : Cut) → possible c ≡ true → c .tbn ≢ 1 → Several (messageLength c) (c .tbn) (unit c)
+possible-several c e ne =
+    let f = possible-facts c e in
+    let w = f .wide ne in
+    let n = messageLength c in
+    let u = unit c in
+    let count : pieces n u ≡ c .tbn = f .cut .count in
+    let more : u < n = bigger n u (c .tbn) (omega (arith, w .0)) count ne in
+    record {
+      two = rw count at (pieces-two n u more (omega (arith, w .0)));
+      big = f .big;
+      low = w .0;
+      high = w .1;
+      below = rw count at (pieces-below n u more (omega (arith, w .0)));
+      cover = rw count at (pieces-cover n u more (omega (arith, w .0)));
+    }
+  where
+    bigger : (n u t : ℕ) → 1 ≤ u → pieces n u ≡ t → t ≢ 1 → u < n
+    bigger n u t pos count ne = ⊎-elim
+        (λ (h : u < n). h)
+        (λ (h : n ≤ u). absurd (ne (sym count ∙ pieces-one n u h)))
+        (lt-or-le u n)
+
+pub possible-unit : (c : Cut) → possible c ≡ true → unit c ≤ mostOctets
+possible-unit c e =
+    let f = possible-facts c e in
+    ⊎-elim
+    (λ (h : c .tbn ≡ 1). omega (arith, unit-one c h, f .big))
+    (λ (h : c .tbn ≢ 1). omega (arith, f .wide h .1))
     (eq-or-ne (c .tbn) 1)

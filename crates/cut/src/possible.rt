@@ -1,7 +1,7 @@
 // Whether a PDU's cut is possible, and what it says of the piece: by ML, BSIZE, CBN and TBN alone.
 ghost use mathlib.Core.Path.{_≡_};
 ghost use Prim.Native.Nat.{_-_, _/_, _≤_};
-ghost use Rattle.cut.specs.Possible.{messageLength, ownLength, unit as unitOf, place as placeOf, sizesWithin, frontPossible, lastPossible, possible as isPossible};
+ghost use Rattle.cut.specs.Possible.{messageLength, ownLength, unit as unitOf, place as placeOf, sizesWithin, severalPossible, frontPossible, lastPossible, possible as isPossible};
 use header::Cut;
 
 const HEADER: u32 = 64;
@@ -90,6 +90,16 @@ fn sizes_within(c: Cut) -> bool
     ensures { λ r. ⌜ r ≡ sizesWithin c ⌝ }
 {
     (HEADER <= c.ml) & (message_length(c) <= 16_384) & (64 <= c.bsize)
+}
+
+// Whether a message of n octets can be cut into t pieces of u, t more than one.
+pub fn several(n: u32, t: u8, u: u32) -> bool
+    ensures { λ r. ⌜ r ≡ severalPossible n t u ⌝ }
+{
+    if t <= 1 {
+        return false;
+    }
+    (n <= 16_384) & front_possible(n, t, u)
 }
 
 // A piece before the last.

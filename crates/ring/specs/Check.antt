@@ -1,6 +1,6 @@
 -- The number check (D.3.1.3): 01's four rules, in their order.
 use Prim.Native.Nat.{ℕ, _-_}
-use mathlib.Core.Bool.{cond, not, _&&_}
+use mathlib.Core.Bool.{Bool, true, false, cond, not, _&&_}
 use lib.Dec.{eqb, ltb}
 use Rattle.ring.specs.declared.Verdict.{Verdict}
 use Rattle.ring.specs.declared.Verdict.the-variants.{Unchecked, First, Restart, Repeat, Next, Gap}
@@ -32,3 +32,21 @@ verdictSkipped Restart = 0
 verdictSkipped Repeat = 0
 verdictSkipped Next = 0
 verdictSkipped (Gap k) = k
+
+-- "number check says repeat"
+abbrev pub isRepeat : Verdict → Bool
+isRepeat Unchecked = false
+isRepeat First = false
+isRepeat Restart = false
+isRepeat Repeat = true
+isRepeat Next = false
+isRepeat (Gap k) = false
+
+-- "V_SEQ = 0 and SEQ = 1: unchecked. Delivery leaves RV and R."
+abbrev pub isUnchecked : Verdict → Bool
+isUnchecked Unchecked = true
+isUnchecked First = false
+isUnchecked Restart = false
+isUnchecked Repeat = false
+isUnchecked Next = false
+isUnchecked (Gap k) = false

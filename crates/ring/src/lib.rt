@@ -8,7 +8,7 @@ ghost use Prim.Native.Nat.{_-_, _<_};
 ghost use lib.Dec.{eqb, ltb};
 ghost use Rattle.ring.specs.declared.Verdict.the-variants.{Repeat, Next, Gap};
 ghost use Rattle.ring.specs.Ring.{M as last, back as backOf, newer as isNewer, isNumber};
-ghost use Rattle.ring.specs.Check.{check, verdictNumber, verdictSkipped};
+ghost use Rattle.ring.specs.Check.{check, verdictNumber, verdictSkipped, isRepeat, isUnchecked};
 
 // V_SEQ: any 32-bit number.
 pub struct Version(pub u32);
@@ -108,6 +108,32 @@ impl Verdict {
             Verdict::Restart => 0,
             Verdict::Repeat => 0,
             Verdict::Next => 0,
+        }
+    }
+
+    pub fn is_repeat(self) -> bool
+        ensures { λ r. ⌜ r ≡ isRepeat self ⌝ }
+    {
+        match self {
+            Verdict::Unchecked => false,
+            Verdict::First => false,
+            Verdict::Restart => false,
+            Verdict::Repeat => true,
+            Verdict::Next => false,
+            Verdict::Gap(_) => false,
+        }
+    }
+
+    pub fn is_unchecked(self) -> bool
+        ensures { λ r. ⌜ r ≡ isUnchecked self ⌝ }
+    {
+        match self {
+            Verdict::Unchecked => true,
+            Verdict::First => false,
+            Verdict::Restart => false,
+            Verdict::Repeat => false,
+            Verdict::Next => false,
+            Verdict::Gap(_) => false,
         }
     }
 }

@@ -1,0 +1,170 @@
+// The message call. One function holds the state: it finds the sender's place, copies that one record out, and puts it back.
+ghost use mathlib.Core.Path.{_≡_};
+ghost use mathlib.Core.Bool.{true};
+ghost use Prim.Native.Nat.{_+_, _<_, _≤_};
+ghost use lib.ListN.{length};
+ghost use Rattle.cut.specs.Possible.{possible};
+ghost use Rattle.rules.specs.Admit.{refusedNumber};
+ghost use Rattle.rules.specs.First.{first};
+ghost use Rattle.rules.specs.Message.{source as sourceOf, packetRows, headWithin, storageAfter, liesAt, whereBy, messageAnswer, messageStorage};
+use cut::possible::message_length;
+use cut::possible::place;
+use header::Head;
+use header::SIZE;
+use header::codes::code_of;
+use header::codes::is_mode;
+use header::codes::is_pri;
+use header::is_fixed;
+use header::read_head;
+use octets::lay;
+use ring::Number;
+use ring::Version;
+use rules::Address;
+use rules::Receiver;
+use rules::answers::Answer;
+use rules::answers::Dropped;
+use rules::answers::Outcome;
+use rules::answers::Where;
+use sender::admit;
+
+const NONE_DROPPED: Dropped = Dropped {
+    version: Version(0),
+    number: Number(0),
+};
+
+pub fn message(mut state: Receiver, storage: &mut [u8], packet: &[u8]) -> Answer
+    ensures answer { λ r. ⌜ r ≡ messageAnswer state (length (now (storage .entry))) (now (packet .entry)) ⌝ }
+    ensures stored { λ _. ⌜ now (storage .exit) ≡ messageStorage state (now (storage .entry)) (now (packet .entry)) ⌝ }
+{
+    let h = read_head(packet);
+    let look = state.look(source(h));
+    let at = look.at;
+    let early = packet_number(look.valid, state.count, at, storage.len(), packet, h);
+    if early != 0 {
+        return Answer {
+            outcome: Outcome::Refused(early),
+            held: 0,
+            dropped: NONE_DROPPED,
+            place: Where::Nothing,
+            state,
+        };
+    }
+    let s = state.senders[at as usize];
+    let a = admit(s, state.test, state.n1, state.clock, h);
+    let outcome = a.outcome;
+    let late = refused_number(outcome);
+    if late != 0 {
+        return Answer {
+            outcome: Outcome::Refused(late),
+            held: 0,
+            dropped: NONE_DROPPED,
+            place: Where::Nothing,
+            state,
+        };
+    }
+    store(storage, at, h, packet);
+    let dropped = a.dropped;
+    let next = a.sender;
+    let to = where_to(outcome, at, h);
+    state.senders[at as usize] = next;
+    Answer {
+        outcome,
+        held: a.held,
+        dropped,
+        place: to,
+        state,
+    }
+}
+
+// Where a PDU comes from.
+fn source(h: Head) -> Address
+    ensures { λ r. ⌜ r ≡ sourceOf h ⌝ }
+{
+    let given = h.given;
+    let field = given.field;
+    let node = given.node;
+    Address { field, node }
+}
+
+// The first of 9 and 11 to 14 that applies, or 0.
+fn packet_number(valid: bool, count: u8, at: u8, room: usize, packet: &[u8], h: Head) -> u8
+    ensures { λ r. ⌜ r ≡ first (packetRows valid count at room (now (packet .entry)) h) ⌝ }
+{
+    let cut = h.cut;
+    let size = packet.len();
+    if !valid {
+        return 9;
+    }
+    if room != (count as usize) * Receiver::AREA {
+        return 11;
+    }
+    if (size < SIZE) | (1_460 < size) | (size != cut.bsize as usize) {
+        return 12;
+    }
+    if !head_within(packet, h) {
+        return 13;
+    }
+    if count <= at { 14 } else { 0 }
+}
+
+// The fixed fields, PRI, MODE, the code and SEQ.
+fn head_within(packet: &[u8], h: Head) -> bool
+    ensures { λ r. ⌜ r ≡ headWithin (now (packet .entry)) h ⌝ }
+{
+    let given = h.given;
+    let number = given.number;
+    is_fixed(packet)
+        & is_pri(given.pri)
+        & is_mode(given.mode)
+        & code_of(given.tcd).is_user()
+        & number.within()
+}
+
+fn refused_number(o: Outcome) -> u8
+    ensures { λ r. ⌜ r ≡ refusedNumber o ⌝ }
+{
+    match o {
+        Outcome::Refused(number) => number,
+        Outcome::Stored => 0,
+        Outcome::Delivered(_) => 0,
+    }
+}
+
+// Where the message lies, if it was delivered.
+fn where_to(o: Outcome, at: u8, h: Head) -> Where
+    requires { ⌜ at < 16 ⌝ }
+    ensures { λ r. ⌜ r ≡ whereBy o at h ⌝ }
+{
+    match o {
+        Outcome::Refused(_) => Where::Nothing,
+        Outcome::Stored => Where::Nothing,
+        Outcome::Delivered(_) => lies(at, h),
+    }
+}
+
+// A message of one piece lies behind its header, one of several at the start of its sender's area.
+fn lies(at: u8, h: Head) -> Where
+    requires { ⌜ at < 16 ⌝ }
+    ensures { λ r. ⌜ r ≡ liesAt at h ⌝ }
+{
+    let cut = h.cut;
+    if cut.tbn == 1 {
+        return Where::Packet;
+    }
+    Where::Storage {
+        start: (at as usize) * Receiver::AREA,
+        length: message_length(cut) as usize,
+    }
+}
+
+// Lays a piece of several down in its sender's area.
+fn store(storage: &mut [u8], at: u8, h: Head, packet: &[u8])
+    requires { ⌜ (at < 16) × (possible (h .cut) ≡ true) × (length (now packet) ≡ h .cut .bsize) ⌝ }
+    ensures { λ _. ⌜ now (storage .exit) ≡ storageAfter (now (storage .entry)) at h (now (packet .entry)) ⌝ }
+{
+    let cut = h.cut;
+    if cut.tbn != 1 {
+        let start = (at as usize) * Receiver::AREA + place(cut) as usize;
+        lay(storage, start, &packet[SIZE..]);
+    }
+}

@@ -1,0 +1,17 @@
+-- A shift and a mask are the bit. Assumes nothing.
+use mathlib.Core.Path.{_≡_, refl, sym, ap, _∙_}
+use Prim.Native.Nat.{ℕ}
+use lib.Dec.{eqb}
+use Rattle.rules.specs.MapLaws.{code-bit}
+use borrow.Author.Needs.{needs}
+use Rattle.rules.proofs.map.bit_of.Statement.{statement}
+use Rattle.rules.proofs.map.bit_of.Tie as tie
+
+shr-result : tie.Need-shr-result
+shr-result c = search needs
+
+returns : tie.Need-returns
+returns c = rw (code-bit (c .args .k) (c .args .map))
+
+pub bit-of-spec : {M : Type 1} → statement M
+bit-of-spec = tie.close (tie.spec shr-result returns)

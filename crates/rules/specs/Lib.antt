@@ -1,0 +1,12 @@
+pub mod State
+pub mod Map
+pub mod MapLaws
+pub mod Limits
+pub mod LimitsLaws
+pub mod First
+pub mod FirstLaws
+pub mod Setup
+pub mod Admit
+pub mod AdmitLaws
+pub mod Message
+pub mod MessageLaws

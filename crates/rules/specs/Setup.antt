@@ -1,0 +1,51 @@
+-- Setup: "takes the node's mode (online or test), N1 (1 to 1,024), the drop time T in ms (1 to 600,000) and 1 to 16 senders, each a
+-- data field and a node, no pair twice".
+use Prim.Native.Nat.{ℕ, zero, suc}
+use mathlib.Core.Bool.{Bool, true, not, cond, _&&_}
+use mathlib.Core.List.{List, [], _∷_, _++_}
+use lib.Dec.{eqb, leb, ltb}
+use lib.ListN.{getD, set, replicate}
+use Rattle.header.specs.Codes.{within}
+use Rattle.rules.specs.declared.Address.{Address}
+use Rattle.rules.specs.declared.Sender.{Sender}
+use Rattle.rules.specs.declared.Receiver.{Receiver}
+use Rattle.rules.specs.declared.answers.Setup.{Setup}
+use Rattle.rules.specs.Limits.{isN1, isDropTime, sendersMost, isAddress, newAmong}
+use Rattle.rules.specs.State.{noAddress, noSender, newSender, emptyReceiver}
+
+-- The address at a place of what was given.
+abbrev pub given : List Address → ℕ → Address
+given l k = getD l k noAddress
+
+-- The first k addresses are within their limits, and "no pair twice".
+unfoldable pub addressesWithin : List Address → ℕ → Bool
+addressesWithin l zero = true
+addressesWithin l (suc k) = addressesWithin l k && (isAddress (given l k) && newAmong (given l) k (given l k))
+
+-- "Tag 1 setup: mode (1 octet: 0 online, 1 test, any other meets 10)"
+unfoldable pub setupWithin : Setup → Bool
+setupWithin q =
+    leb (q .mode) 1 && isN1 (q .n1) && isDropTime (q .t) && within 1 sendersMost (q .count) && addressesWithin (q .senders) (q .count)
+
+-- The first k senders of the table; "places past the senders are written 0".
+unfoldable pub newSenders : List Address → ℕ → List Sender
+newSenders l zero = replicate 16 noSender
+newSenders l (suc k) = set (newSenders l k) k (newSender (given l k))
+
+-- "At setup the clock is 0, nobody is heard, nothing is open and every last version and number is 0."
+unfoldable pub setupState : Setup → Receiver
+setupState q = record {
+  test = eqb (q .mode) 1;
+  n1 = q .n1;
+  t = q .t;
+  clock = 0;
+  count = q .count;
+  senders = newSenders (q .senders) (q .count);
+}
+
+-- "10: setup outside its limits: empty state"
+unfoldable pub setupNumber : Setup → ℕ
+setupNumber q = cond (setupWithin q) 0 10
+
+unfoldable pub setupAnswer : Setup → Receiver
+setupAnswer q = cond (setupWithin q) (setupState q) emptyReceiver

@@ -1,0 +1,57 @@
+// What the calls take and answer. An outcome is an enum; specs/Answers.antt has 01's number for each of its cases.
+
+use crate::Address;
+use crate::Receiver;
+use crate::Sender;
+use ring::Number;
+use ring::Verdict;
+use ring::Version;
+
+// What became of a packet or a call.
+pub enum Outcome {
+    // with 01's number, 9 or more
+    Refused(u8),
+    Stored,
+    Delivered(Verdict),
+}
+
+// Where a delivered message lies.
+pub enum Where {
+    Nothing,
+    // behind the header of the packet
+    Packet,
+    // in the storage
+    Storage { start: usize, length: usize },
+}
+
+// The message that was dropped to make room; both 0 if none was.
+pub struct Dropped {
+    pub version: Version,
+    pub number: Number,
+}
+
+// What one sender's record makes of a PDU.
+pub struct Admission {
+    pub outcome: Outcome,
+    pub held: u8,
+    pub dropped: Dropped,
+    pub sender: Sender,
+}
+
+pub struct Answer {
+    pub outcome: Outcome,
+    // pieces then held for the PDU's sender
+    pub held: u8,
+    pub dropped: Dropped,
+    pub place: Where,
+    pub state: Receiver,
+}
+
+// What setup takes. Places of the table past the count are not looked at.
+pub struct Setup {
+    pub mode: u8,
+    pub n1: u16,
+    pub t: u32,
+    pub count: u8,
+    pub senders: [Address; 16],
+}

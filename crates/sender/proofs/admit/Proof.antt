@@ -1,0 +1,32 @@
+-- Refused by its number, or admitted. Assumes nothing.
+use mathlib.Core.Path.{_≡_, refl, sym, ap, _∙_}
+use Rattle.rules.specs.Admit.{notAdmitted}
+use Rattle.rules.specs.AdmitLaws.{admitted-facts, admission-yes, admission-no}
+use borrow.Author.Needs.{needs}
+use Rattle.sender.proofs.admit.Statement.{statement}
+use Rattle.sender.proofs.admit.Tie as tie
+
+refusal-requires : tie.Need-refusal-requires
+refusal-requires c κs = search needs
+
+returns : tie.Need-returns
+unfolding notAdmitted
+returns c =
+    let a = c .before .before .args in
+    admission-no (a .test) (a .n1) (a .clock) (a .s) (a .h) _ (c .before .refusal .ensures) (c .if1 .taken)
+
+admitted-by-requires : tie.Need-admitted-by-requires
+admitted-by-requires c κs =
+    let a = c .before .before .args in
+    let f = admitted-facts (a .test) (a .n1) (a .s) (a .h) (sym (c .before .refusal .ensures) ∙ c .if1 .left) in
+    (f .cut-possible, f .new-piece)
+
+returns-2 : tie.Need-returns-2
+returns-2 c =
+    let passed = c .before in
+    let a = passed .before .before .args in
+    c .admitted-by .ensures
+    ∙ sym (admission-yes (a .test) (a .n1) (a .clock) (a .s) (a .h) (sym (passed .before .refusal .ensures) ∙ passed .if1 .left))
+
+pub admit-spec : {M : Type 1} → statement M
+admit-spec = tie.close (tie.spec refusal-requires returns admitted-by-requires returns-2)

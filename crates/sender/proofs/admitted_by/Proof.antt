@@ -1,0 +1,64 @@
+-- Each part is that of the definition. Assumes nothing.
+use mathlib.Core.Path.{_≡_, refl, sym, ap, _∙_}
+use Prim.Native.Nat.{_≤_}
+use native.Mathlib.Omega.{arith}
+use lib.Count.{ones, ones-le}
+use Rattle.rules.specs.Admit.{admitted, fills, heldAfter, senderAfter}
+use borrow.Author.Needs.{needs}
+use Rattle.sender.proofs.admitted_by.Statement.{statement}
+use Rattle.sender.proofs.admitted_by.Tie as tie
+
+map-after-requires : tie.Need-map-after-requires
+map-after-requires c κs = search needs
+
+dropped-by-requires : tie.Need-dropped-by-requires
+dropped-by-requires c κs = search needs
+
+is-full-requires : tie.Need-is-full-requires
+is-full-requires c κs = search needs
+
+verdict-requires : tie.Need-verdict-requires
+verdict-requires c κs = search needs
+
+delivered-requires : tie.Need-delivered-requires
+delivered-requires c κs = search needs
+
+returns : tie.Need-returns
+unfolding admitted fills heldAfter senderAfter
+returns c =
+    let full = c .before .before in
+    let map = full .before .before .before in
+    let f = sym (full .before .is-full .ensures) ∙ full .if1 .taken in
+    simp (rw (map .map-after .ensures) at f, c .delivered .ensures, c .before .verdict .ensures, full .before .before .dropped-by .ensures)
+
+opened-requires : tie.Need-opened-requires
+opened-requires c κs = search needs
+
+held-requires : tie.Need-held-requires
+held-requires c κs = search needs
+
+cast-t15 : tie.Need-cast-t15
+cast-t15 c = omega (arith, c .held .ensures, ones-le 64 (c .before .before .before .before .before .map-after .result) (omega arith))
+
+returns-2 : tie.Need-returns-2
+unfolding admitted fills heldAfter senderAfter
+returns-2 c =
+    let partial = c .before .before in
+    let map = partial .before .before .before in
+    let f = sym (partial .before .is-full .ensures) ∙ partial .if1 .left in
+    simp (rw (map .map-after .ensures) at f, c .held .ensures, c .before .opened .ensures, partial .before .before .dropped-by .ensures, map .map-after .ensures)
+
+pub admitted-by-spec : {M : Type 1} → statement M
+admitted-by-spec =
+    tie.close
+    (tie.spec
+    map-after-requires
+    dropped-by-requires
+    is-full-requires
+    verdict-requires
+    delivered-requires
+    returns
+    opened-requires
+    held-requires
+    cast-t15
+    returns-2)

@@ -1,0 +1,247 @@
+// One sender's record: what it makes of a PDU whose header is in order. The numbers 15 to 20, and opening, adding, dropping and
+// delivering.
+//
+// Every public function is total: the record need not be within its limits.
+ghost use mathlib.Core.Path.{_≡_};
+ghost use mathlib.Core.Bool.{true, false};
+ghost use mathlib.Core.List.{[], _∷_};
+ghost use Rattle.cut.specs.Possible.{possible as isPossible};
+ghost use Rattle.rules.specs.Admit.{rejoins as isRejoining, sameCut, senderRows, mapAfter, droppedBy, lastBy, closed, messageOf, opened as isOpened, admitted, admission, verdictOf};
+ghost use Rattle.rules.specs.First.{row, first};
+ghost use Rattle.rules.specs.Map.{holds as holdsOf};
+use cut::possible::message_length;
+use cut::possible::possible;
+use cut::possible::unit;
+use header::Cut;
+use header::Head;
+use ring::Number;
+use ring::Verdict;
+use ring::Version;
+use ring::newer;
+use ring::number_check;
+use rules::Last;
+use rules::Message;
+use rules::Sender;
+use rules::answers::Admission;
+use rules::answers::Dropped;
+use rules::answers::Outcome;
+use rules::map::held;
+use rules::map::holds;
+use rules::map::is_full;
+use rules::map::marked;
+
+const NONE_DROPPED: Dropped = Dropped {
+    version: Version(0),
+    number: Number(0),
+};
+
+// What the record makes of the PDU with this header, at a node with these settings and this clock.
+pub fn admit(s: Sender, test: bool, n1: u16, clock: u64, h: Head) -> Admission
+    ensures { λ r. ⌜ r ≡ admission test n1 clock s h ⌝ }
+{
+    let number = refusal(s, test, n1, h);
+    if number != 0 {
+        return Admission {
+            outcome: Outcome::Refused(number),
+            held: 0,
+            dropped: NONE_DROPPED,
+            sender: s,
+        };
+    }
+    admitted_by(s, n1, clock, h)
+}
+
+// ---- the numbers
+
+// The first of 15 to 20 that applies, or 0.
+fn refusal(s: Sender, test: bool, n1: u16, h: Head) -> u8
+    ensures { λ r. ⌜ r ≡ first (senderRows test n1 s h) ⌝ }
+{
+    let given = h.given;
+    let cut = h.cut;
+    let m = s.message;
+    let same_version = s.open & (m.version.0 == given.version.0);
+    let again = rejoins(s, h);
+    first_of(
+        (given.mode == 1) & !test,
+        !possible(cut),
+        verdict(s, n1, h).is_repeat(),
+        same_version & newer(m.number, given.number),
+        again & !same_cut(m, h),
+        again & holds(m.map, cut.cbn),
+    )
+}
+
+fn first_of(a: bool, b: bool, c: bool, d: bool, e: bool, f: bool) -> u8
+    ensures { λ r. ⌜ r ≡ first (row 15 a ∷ row 16 b ∷ row 17 c ∷ row 18 d ∷ row 19 e ∷ row 20 f ∷ []) ⌝ }
+{
+    if a {
+        return 15;
+    }
+    if b {
+        return 16;
+    }
+    if c {
+        return 17;
+    }
+    if d {
+        return 18;
+    }
+    if e {
+        return 19;
+    }
+    if f { 20 } else { 0 }
+}
+
+// What the number check says.
+fn verdict(s: Sender, n1: u16, h: Head) -> Verdict
+    ensures { λ r. ⌜ r ≡ verdictOf n1 s h ⌝ }
+{
+    let last = s.last;
+    let given = h.given;
+    number_check(n1, last.version, last.number, given.version, given.number)
+}
+
+// Whether the open message has the PDU's version and number.
+fn rejoins(s: Sender, h: Head) -> bool
+    ensures { λ r. ⌜ r ≡ isRejoining s h ⌝ }
+{
+    let m = s.message;
+    let given = h.given;
+    s.open & (m.version.0 == given.version.0) & (m.number.0 == given.number.0)
+}
+
+fn same_cut(m: Message, h: Head) -> bool
+    ensures { λ r. ⌜ r ≡ sameCut m h ⌝ }
+{
+    let cut = h.cut;
+    let given = h.given;
+    (m.tcd == given.tcd)
+        & (m.n as u32 == message_length(cut))
+        & (m.tbn == cut.tbn)
+        & (m.u as u32 == unit(cut))
+}
+
+// ---- what an admitted PDU does
+
+fn admitted_by(s: Sender, n1: u16, clock: u64, h: Head) -> Admission
+    requires { ⌜ (isPossible (h .cut) ≡ true) × (isRejoining s h ≡ true → holdsOf (s .message .map) (h .cut .cbn) ≡ false) ⌝ }
+    ensures { λ r. ⌜ r ≡ admitted n1 clock s h ⌝ }
+{
+    let cut = h.cut;
+    let map = map_after(s, h);
+    let dropped = dropped_by(s, h);
+    if is_full(map, cut.tbn) {
+        let v = verdict(s, n1, h);
+        let sender = delivered(s, v, h);
+        return Admission {
+            outcome: Outcome::Delivered(v),
+            held: 0,
+            dropped,
+            sender,
+        };
+    }
+    let sender = opened(s, clock, map, h);
+    Admission {
+        outcome: Outcome::Stored,
+        held: held(map) as u8,
+        dropped,
+        sender,
+    }
+}
+
+// The map of the message that the PDU belongs to, with its piece.
+fn map_after(s: Sender, h: Head) -> u64
+    requires { ⌜ (isPossible (h .cut) ≡ true) × (isRejoining s h ≡ true → holdsOf (s .message .map) (h .cut .cbn) ≡ false) ⌝ }
+    ensures { λ r. ⌜ r ≡ mapAfter s h ⌝ }
+{
+    let m = s.message;
+    let cut = h.cut;
+    if rejoins(s, h) {
+        return marked(m.map, cut.cbn);
+    }
+    marked(0, cut.cbn)
+}
+
+// The open message, where the PDU belongs to another.
+fn dropped_by(s: Sender, h: Head) -> Dropped
+    ensures { λ r. ⌜ r ≡ droppedBy s h ⌝ }
+{
+    if s.open & !rejoins(s, h) {
+        let m = s.message;
+        let version = m.version;
+        let number = m.number;
+        return Dropped { version, number };
+    }
+    NONE_DROPPED
+}
+
+// The record once the message is delivered: nothing is then open.
+fn delivered(s: Sender, v: Verdict, h: Head) -> Sender
+    ensures { λ r. ⌜ r ≡ closed s (lastBy v s h) ⌝ }
+{
+    let address = s.address;
+    let last = last_after(s, v, h);
+    let message = Message::NONE;
+    let heard = s.heard;
+    Sender {
+        address,
+        last,
+        open: false,
+        message,
+        alive: s.alive,
+        heard,
+    }
+}
+
+// Delivery stores V_SEQ and SEQ, but for an unchecked message.
+fn last_after(s: Sender, v: Verdict, h: Head) -> Last
+    ensures { λ r. ⌜ r ≡ lastBy v s h ⌝ }
+{
+    if v.is_unchecked() {
+        return s.last;
+    }
+    let given = h.given;
+    let version = given.version;
+    let number = given.number;
+    Last { version, number }
+}
+
+// The record with the message open, and this map.
+fn opened(s: Sender, clock: u64, map: u64, h: Head) -> Sender
+    requires { ⌜ isPossible (h .cut) ≡ true ⌝ }
+    ensures { λ r. ⌜ r ≡ isOpened s (messageOf clock map h) ⌝ }
+{
+    let address = s.address;
+    let last = s.last;
+    let message = message_of(clock, map, h);
+    let heard = s.heard;
+    Sender {
+        address,
+        last,
+        open: true,
+        message,
+        alive: s.alive,
+        heard,
+    }
+}
+
+fn message_of(clock: u64, map: u64, h: Head) -> Message
+    requires { ⌜ isPossible (h .cut) ≡ true ⌝ }
+    ensures { λ r. ⌜ r ≡ messageOf clock map h ⌝ }
+{
+    let given = h.given;
+    let cut = h.cut;
+    let version = given.version;
+    let number = given.number;
+    Message {
+        version,
+        number,
+        tcd: given.tcd,
+        n: message_length(cut) as u16,
+        tbn: cut.tbn,
+        u: unit(cut) as u16,
+        map,
+        stamp: clock,
+    }
+}
