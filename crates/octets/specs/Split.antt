@@ -3,7 +3,9 @@ use mathlib.Core.Path.{_≡_, refl, sym, _∙_}
 use mathlib.Core.Logic.{_≢_, _⊎_, inl, inr}
 use mathlib.Core.Bool.{Bool, true, false, not, cond, _&&_, _||_, false≢true}
 use Prim.Native.Nat.{ℕ, _≤_, _<_}
+use mathlib.Core.List.{List, map}
 use lib.Dec.{ltb, eqb}
+use lib.ListN.{length, length-map}
 use borrow.Author.Tests.{ltb-true, ltb-false, eqb-true, eqb-false}
 
 pub lt-or-le : (a b : ℕ) → (a < b) ⊎ (b ≤ a)
@@ -65,3 +67,7 @@ pub not-both : (a b : Bool) → (a ≡ true → b ≡ true → ⊥) → a && b �
 not-both true true f = absurd (f refl refl)
 not-both true false f = refl
 not-both false b f = refl
+
+-- What owning an array of structs tells is the length of a `map` over it.
+pub mapped-length : (A B : Type 0) (f : A → B) (l : List A) (n : ℕ) → length (map f l) ≡ n → length l ≡ n
+mapped-length A B f l n e = sym (length-map l f) ∙ e

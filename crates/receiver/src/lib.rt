@@ -3,3 +3,5 @@
 // Every public function is total: any state, any storage and any octets may come, and each meets its number.
 
 pub mod message;
+pub mod part;
+pub mod setup;

@@ -10,3 +10,5 @@ pub mod Admit
 pub mod AdmitLaws
 pub mod Message
 pub mod MessageLaws
+pub mod Part
+pub mod SetupLaws

@@ -9,6 +9,9 @@ use Rattle.header.specs.Codes.{within}
 use Rattle.rules.specs.declared.Address.{Address}
 use Rattle.rules.specs.declared.Sender.{Sender}
 use Rattle.rules.specs.declared.Receiver.{Receiver}
+use Rattle.rules.specs.declared.answers.Call.{Call}
+use Rattle.rules.specs.declared.answers.Call.the-variants.{Done, Refused}
+use Rattle.rules.specs.declared.answers.Started.{Started}
 use Rattle.rules.specs.declared.answers.Setup.{Setup}
 use Rattle.rules.specs.Limits.{isN1, isDropTime, sendersMost, isAddress, newAmong}
 use Rattle.rules.specs.State.{noAddress, noSender, newSender, emptyReceiver}
@@ -44,8 +47,11 @@ setupState q = record {
 }
 
 -- "10: setup outside its limits: empty state"
-unfoldable pub setupNumber : Setup → ℕ
-setupNumber q = cond (setupWithin q) 0 10
+unfoldable pub setupAnswer : Setup → Started
+setupAnswer q =
+    cond (setupWithin q) (record { call = Done; state = setupState q }) (record { call = Refused 10; state = emptyReceiver })
 
-unfoldable pub setupAnswer : Setup → Receiver
-setupAnswer q = cond (setupWithin q) (setupState q) emptyReceiver
+-- "0 stored, done or written"
+abbrev pub callNumber : Call → ℕ
+callNumber Done = 0
+callNumber (Refused k) = k

@@ -55,3 +55,16 @@ pub struct Setup {
     pub count: u8,
     pub senders: [Address; 16],
 }
+
+// What became of a call that takes no message.
+pub enum Call {
+    Done,
+    // with 01's number
+    Refused(u8),
+}
+
+// What setup answers.
+pub struct Started {
+    pub call: Call,
+    pub state: Receiver,
+}

@@ -8,7 +8,7 @@ ghost use Prim.Native.Nat.{_+_, _≤_, _<_};
 ghost use lib.Dec.{ltb};
 ghost use Rattle.rules.specs.Limits.{isAddress, sameAddress, lastWithin, messageWithin, senderWithin, settingsOf, newAmong};
 ghost use Rattle.rules.specs.Message.{lookAt};
-ghost use Rattle.rules.specs.Setup.{given};
+ghost use Rattle.rules.specs.Setup.{given, addressesWithin};
 ghost use Rattle.rules.specs.State.{emptyReceiver};
 
 pub mod answers;
@@ -233,6 +233,23 @@ fn settings_within(test: bool, n1: u16, t: u32, clock: u64, count: u8) -> bool
         & ((1 <= n1) & (n1 <= Receiver::N1_MOST))
         & ((1 <= t) & (t <= Receiver::DROP_TIME_MOST))
         & ((0 < count) | (!test & (n1 == 1) & (t == 1)))
+}
+
+// Whether the first count addresses are within their limits, and none stands there twice.
+pub fn addresses_within(senders: [Address; 16], count: u8) -> bool
+    ensures { λ r. ⌜ r ≡ addressesWithin senders count ⌝ }
+{
+    if 16 < count {
+        return false;
+    }
+    let mut within = true;
+    let mut i: u8 = 0;
+    while i < count {
+        let a = senders[i as usize];
+        within = within & (a.within() & fresh(senders, i, a));
+        i += 1;
+    }
+    within
 }
 
 // Whether none of the first k addresses is this one.

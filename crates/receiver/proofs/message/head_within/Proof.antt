@@ -27,8 +27,12 @@ unfolding headWithin
 returns c =
     let fixed = c .before .before .before .before .before in
     simp (
-      fixed .is-fixed .ensures, c .before .before .before .before .is-pri .ensures, c .before .before .before .is-mode .ensures,
-      c .before .before .code-of .ensures, c .before .is-user .ensures, c .within .ensures
+      fixed .is-fixed .ensures,
+      c .before .before .before .before .is-pri .ensures,
+      c .before .before .before .is-mode .ensures,
+      c .before .before .code-of .ensures,
+      c .before .is-user .ensures,
+      c .within .ensures,
     )
 
 pub head-within-spec : {M : Type 1} → statement M

@@ -66,10 +66,11 @@ store-requires c κs =
     let head = l .before .before in
     let a = head .before .before .before .args in
     let z = (sym (k .packet-number .ensures) ∙ c .before .before .before .before .before .if1 .left) in
-    let none = sym (c .before .before .refused-number .ensures) ∙ c .before .if2 .left in
-    (pass-place (a .t1) (now (a .storage)) (now (a .packet)) _ _ _ (head .read-head .ensures) (l .before .source .ensures) (l .look .ensures) z,
-    pass-admitted (a .t1) (now (a .storage)) (now (a .packet)) _ _ _ (head .read-head .ensures) (l .before .source .ensures) (l .look .ensures) z _ (c .before .before .before .admit .ensures) none .cut-possible,
-    pass-facts (a .t1) (now (a .storage)) (now (a .packet)) _ _ _ (head .read-head .ensures) (l .before .source .ensures) (l .look .ensures) z .size)
+    let none = sym (c .before .before .refused-number .ensures) ∙ c .before .if2 .left in (
+      pass-place (a .t1) (now (a .storage)) (now (a .packet)) _ _ _ (head .read-head .ensures) (l .before .source .ensures) (l .look .ensures) z,
+      pass-admitted (a .t1) (now (a .storage)) (now (a .packet)) _ _ _ (head .read-head .ensures) (l .before .source .ensures) (l .look .ensures) z _ (c .before .before .before .admit .ensures) none .cut-possible,
+      pass-facts (a .t1) (now (a .storage)) (now (a .packet)) _ _ _ (head .read-head .ensures) (l .before .source .ensures) (l .look .ensures) z .size,
+    )
 
 where-to-requires : tie.Need-where-to-requires
 where-to-requires c κs =

@@ -1,0 +1,39 @@
+// The delivered octets, as a returned part of one of two lent slices. Nothing is copied.
+ghost use mathlib.Core.Path.{_≡_};
+ghost use Rattle.rules.specs.Part.{behindHeader, storedPart, partOf};
+use header::SIZE;
+use rules::answers::Where;
+
+// A message of one piece: the packet behind its header.
+pub fn behind_header(packet: &[u8]) -> &[u8]
+    ensures { λ r. ⌜ now r ≡ behindHeader (now (packet .entry)) ⌝ }
+{
+    if SIZE <= packet.len() {
+        &packet[SIZE..]
+    } else {
+        &packet[packet.len()..]
+    }
+}
+
+// A message of several pieces: the storage from where it starts.
+fn stored_part(storage: &[u8], start: usize, length: usize) -> &[u8]
+    ensures { λ r. ⌜ now r ≡ storedPart (now (storage .entry)) start length ⌝ }
+{
+    if storage.len() < length {
+        return &storage[..0];
+    }
+    if storage.len() - length < start {
+        return &storage[..0];
+    }
+    &storage[start..start + length]
+}
+
+pub fn part<'a>(place: Where, packet: &'a [u8], storage: &'a [u8]) -> &'a [u8]
+    ensures { λ r. ⌜ now r ≡ partOf place (now (packet .entry)) (now (storage .entry)) ⌝ }
+{
+    match place {
+        Where::Nothing => &packet[..0],
+        Where::Packet => behind_header(packet),
+        Where::Storage { start, length } => stored_part(storage, start, length),
+    }
+}
