@@ -12,3 +12,5 @@ pub mod Message
 pub mod MessageLaws
 pub mod Part
 pub mod SetupLaws
+pub mod Clock
+pub mod ClockLaws

@@ -41,6 +41,10 @@ pub look-few : (w : Receiver) (a : Address) (settings all : Bool) (i at : ℕ) �
 unfolding lookAt valid
 look-few w a settings all i at few e s v f = rw (le-leb (w .count) sendersMost few, v, s, f, e)
 
+pub look-valid : (w : Receiver) (a : Address) (l : Look) → l ≡ lookAt w a → l .valid ≡ valid w
+unfolding lookAt
+look-valid w a l e = rw e
+
 -- ---- the numbers before the sender's
 
 -- What is known where none of 9 and 11 to 14 applies.
@@ -99,13 +103,10 @@ module _ (w : Receiver) (storage packet : List ℕ) where
   pub early-is : (l : Look) → l ≡ lookAt w (source (headOf packet)) → first (packetRows (l .valid) (w .count) (l .at) (length storage) packet (headOf packet)) ≡ earlyNumber
   unfolding earlyNumber
   early-is l e = ⊎-elim
-      (λ (v : l .valid ≡ true). rw (place-found l e v, valid-is l e))
+      (λ (v : l .valid ≡ true). rw (place-found l e v, look-valid w (source (headOf packet)) l e))
       (λ (v : l .valid ≡ false).
-      first-here 9 (not (l .valid)) _ (rw v) ∙ sym (first-here 9 (not (valid w)) _ (rw (sym (valid-is l e) ∙ v))))
+      first-here 9 (not (l .valid)) _ (rw v) ∙ sym (first-here 9 (not (valid w)) _ (rw (sym (look-valid w (source (headOf packet)) l e) ∙ v))))
       (true-or-false (l .valid))
-    where
-      valid-is : (k : Look) → k ≡ lookAt w (source (headOf packet)) → k .valid ≡ valid w
-      valid-is k e = unfold lookAt in rw e
 
   abbrev pub Said : Answer → List ℕ → Type 0
   Said a s = (a ≡ messageAnswer w (length storage) packet) × (s ≡ messageStorage w storage packet)
@@ -149,11 +150,8 @@ module _ (w : Receiver) (storage packet : List ℕ) (h : Head) (a : Address) (l 
     -- The place is one of the table's 16.
     pub pass-place : l .at < sendersMost
     pass-place =
-        let v : valid w ≡ true = sym (valid-is l look-is) ∙ pass-facts .is-valid in
+        let v : valid w ≡ true = sym (look-valid w a l el) ∙ pass-facts .is-valid in
         omega (arith, valid-count w v, pass-facts .registered)
-      where
-        valid-is : (k : Look) → k ≡ lookAt w (source (headOf packet)) → k .valid ≡ valid w
-        valid-is k e = unfold lookAt in rw e
 
     place-is : l .at ≡ found w (headOf packet)
     place-is = place-found w storage packet l look-is (pass-facts .is-valid)

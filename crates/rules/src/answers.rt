@@ -68,3 +68,11 @@ pub struct Started {
     pub call: Call,
     pub state: Receiver,
 }
+
+// What the clock call answers: which messages were dropped and which senders died, first sender lowest.
+pub struct Ticked {
+    pub call: Call,
+    pub dropped: u16,
+    pub dead: u16,
+    pub state: Receiver,
+}

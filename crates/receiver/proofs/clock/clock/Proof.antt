@@ -1,0 +1,143 @@
+-- After i turns the first i senders have aged. Assumes nothing.
+use Prim.Native.Nat.{ℕ, _≤_, _<_, _-_, _^_}
+use mathlib.Core.Path.{_≡_, refl, sym, ap, _∙_}
+use native.Mathlib.Omega.{arith}
+use borrow.Author.Needs.{needs}
+use borrow.Author.Tests.{not-true, not-false}
+use lib.ListN.{getD}
+use Rattle.rules.specs.Clock.{drops, dies, agedSenders, mapWhere, notTicked}
+use Rattle.rules.specs.ClockLaws.{withSenders, map-again, map-below, state-more, ticked-is, clock-nine, clock-back, clock-on}
+use Rattle.rules.specs.LimitsLaws.{valid-count}
+use Rattle.rules.specs.MessageLaws.{look-valid}
+use Rattle.rules.specs.declared.Receiver.{Receiver}
+use borrow.Author.Needs.{needs}
+use Rattle.receiver.proofs.clock.clock.Statement.{statement}
+use Rattle.receiver.proofs.clock.clock.Tie as tie
+
+abbrev Inv-loop : tie.InvT-loop
+Inv-loop now state₀ t count dropped₀ dead₀ i₀ state dropped dead i =
+    (i ≤ count) × (count ≤ 16) × (dropped ≡ mapWhere (drops t now) (state₀ .senders) i) × (dead ≡ mapWhere (dies now) (state₀ .senders) i)
+    × (state ≡ withSenders state₀ (agedSenders t now (state₀ .senders) i))
+
+abbrev μ-loop : tie.MeasureT-loop
+μ-loop now state₀ t count dropped₀ dead₀ i₀ state dropped dead i = count - i
+
+look-requires : tie.Need-look-requires Inv-loop μ-loop
+look-requires c κs = search needs
+
+returns : tie.Need-returns Inv-loop μ-loop
+unfolding notTicked
+returns c =
+    let l = c .before .before in
+    let a = l .before .args in
+    clock-nine (a .t1) (a .now) (sym (look-valid _ _ _ (l .look .ensures)) ∙ not-true _ (c .if1 .taken))
+
+returns-2 : tie.Need-returns-2 Inv-loop μ-loop
+unfolding notTicked
+returns-2 c =
+    let ok = c .before in
+    let l = ok .before .before in
+    let a = l .before .args in
+    clock-back (a .t1) (a .now) (sym (look-valid _ _ _ (l .look .ensures)) ∙ not-false _ (ok .if1 .left)) (c .if2 .taken)
+
+loop-holds : tie.Need-loop-holds Inv-loop μ-loop
+unfolding mapWhere agedSenders
+loop-holds c =
+    let ok = c .before in
+    let l = ok .before .before in
+    let a = l .before .args in
+    let v = sym (look-valid _ _ _ (l .look .ensures)) ∙ not-false _ (ok .if1 .left) in
+    (omega arith, valid-count (a .t1) v, refl, refl, refl)
+
+cast-s : tie.Need-cast-s Inv-loop μ-loop
+cast-s c = omega arith
+
+mul-s : tie.Need-mul-s Inv-loop μ-loop
+mul-s c = omega arith
+
+element-copy-out-s : tie.Need-element-copy-out-s Inv-loop μ-loop
+element-copy-out-s c = omega arith
+
+drops-requires : tie.Need-drops-requires Inv-loop μ-loop
+drops-requires c κs = search needs
+
+with-place-requires : tie.Need-with-place-requires Inv-loop μ-loop
+with-place-requires c κs =
+    let l = c .before .before .before .loop in
+    (omega arith, rw (l .inv .2) (map-below _ _ (l .i)))
+
+dies-requires : tie.Need-dies-requires Inv-loop μ-loop
+dies-requires c κs = search needs
+
+with-place-requires-2 : tie.Need-with-place-requires-2 Inv-loop μ-loop
+with-place-requires-2 c κs =
+    let l = c .before .before .before .before .before .loop in
+    (omega arith, rw (l .inv .3) (map-below _ _ (l .i)))
+
+aged-requires : tie.Need-aged-requires Inv-loop μ-loop
+aged-requires c κs = search needs
+
+cast-t24 : tie.Need-cast-t24 Inv-loop μ-loop
+cast-t24 c = omega arith
+
+mul-t25 : tie.Need-mul-t25 Inv-loop μ-loop
+mul-t25 c = omega arith
+
+element-set-from-state : tie.Need-element-set-from-state Inv-loop μ-loop
+element-set-from-state c = omega arith
+
+add-i : tie.Need-add-i Inv-loop μ-loop
+add-i c = omega arith
+
+loop-less : tie.Need-loop-less Inv-loop μ-loop
+loop-less c = omega arith
+
+loop-again : tie.Need-loop-again Inv-loop μ-loop
+loop-again c =
+    let dropped = c .before .before .before in
+    let l = dropped .before .before .before .before .loop in
+    let a = dropped .before .before .before .before .before .before .before .before .before .args in
+    let w = a .t1 in
+    let m = ap (λ (v : Receiver). v .senders) (l .inv .4) in (
+      omega arith,
+      omega arith,
+      dropped .with-place .ensures ∙ map-again (w .t) (a .now) (drops (w .t) (a .now)) (w .senders) _ (l .i) _ _ m (l .inv .2) (dropped .before .drops .ensures),
+      c .before .with-place2 .ensures ∙ map-again (w .t) (a .now) (dies (a .now)) (w .senders) _ (l .i) _ _ m (l .inv .3) (c .before .before .dies .ensures),
+      state-more w (l .state) (w .t) (a .now) (l .i) _ (l .inv .4) (c .aged .ensures),
+    )
+
+returns-3 : tie.Need-returns-3 Inv-loop μ-loop
+returns-3 c =
+    let l = c .before .loop in
+    let on = c .before .before in
+    let ok = on .before in
+    let looked = ok .before .before in
+    let a = looked .before .args in
+    let v = sym (look-valid _ _ _ (looked .look .ensures)) ∙ not-false _ (ok .if1 .left) in
+    ticked-is (a .t1) (l .state) (a .now) (l .i) _ _ (omega arith) (l .inv .4) (l .inv .2) (l .inv .3) ∙ clock-on (a .t1) (a .now) v (on .if2 .left)
+
+pub clock-spec : {M : Type 1} → statement M
+clock-spec =
+    tie.close
+    (tie.spec
+    Inv-loop
+    μ-loop
+    look-requires
+    returns
+    returns-2
+    loop-holds
+    cast-s
+    mul-s
+    element-copy-out-s
+    drops-requires
+    with-place-requires
+    dies-requires
+    with-place-requires-2
+    aged-requires
+    cast-t24
+    mul-t25
+    element-set-from-state
+    add-i
+    loop-less
+    loop-again
+    returns-3)

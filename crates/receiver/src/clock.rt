@@ -1,0 +1,121 @@
+// The clock call: the only one that moves time. It drops old messages and calls silent senders dead.
+ghost use mathlib.Core.Path.{_≡_};
+ghost use mathlib.Core.Bool.{cond};
+ghost use Prim.Native.Nat.{_+_, _-_, _*_, _^_, _≤_, _<_};
+ghost use Rattle.rules.specs.Clock.{drops as dropsAt, dies as diesAt, aged as agedAt, clockAnswer};
+ghost use Rattle.rules.specs.State.{noMessage, noHeard};
+use rules::Address;
+use rules::Heard;
+use rules::Message;
+use rules::Receiver;
+use rules::Sender;
+use rules::answers::Call;
+use rules::answers::Ticked;
+
+pub fn clock(mut state: Receiver, now: u64) -> Ticked
+    ensures { λ r. ⌜ r ≡ clockAnswer state now ⌝ }
+{
+    let look = state.look(Address::NONE);
+    if !look.valid {
+        return Ticked {
+            call: Call::Refused(9),
+            dropped: 0,
+            dead: 0,
+            state,
+        };
+    }
+    if (now < state.clock) | (Receiver::CLOCK_MOST < now) {
+        return Ticked {
+            call: Call::Refused(21),
+            dropped: 0,
+            dead: 0,
+            state,
+        };
+    }
+    let t = state.t;
+    let count = state.count;
+    let mut dropped = 0;
+    let mut dead = 0;
+    let mut i: u8 = 0;
+    while i < count {
+        let s = state.senders[i as usize];
+        dropped = with_place(dropped, i, drops(s, t, now));
+        dead = with_place(dead, i, dies(s, now));
+        state.senders[i as usize] = aged(s, t, now);
+        i += 1;
+    }
+    state.clock = now;
+    Ticked {
+        call: Call::Done,
+        dropped,
+        dead,
+        state,
+    }
+}
+
+// Whether the open message is T or more old.
+fn drops(s: Sender, t: u32, now: u64) -> bool
+    ensures { λ r. ⌜ r ≡ dropsAt t now s ⌝ }
+{
+    s.open & (t as u64 <= since(s.message.stamp, now))
+}
+
+// Whether the alive sender is silent for al_tm_out seconds or more.
+fn dies(s: Sender, now: u64) -> bool
+    ensures { λ r. ⌜ r ≡ diesAt now s ⌝ }
+{
+    s.alive & (1_000 * (s.heard.timeout as u64) <= since(s.heard.stamp, now))
+}
+
+// How long ago a stamp is.
+fn since(stamp: u64, now: u64) -> u64
+    ensures { λ r. ⌜ r ≡ now - stamp ⌝ }
+{
+    if stamp <= now { now - stamp } else { 0 }
+}
+
+// The map with the place i, where something holds of its sender.
+fn with_place(map: u16, i: u8, here: bool) -> u16
+    requires { ⌜ (i < 16) × (map < 2 ^ i) ⌝ }
+    ensures { λ r. ⌜ r ≡ map + cond here (2 ^ i) 0 ⌝ }
+{
+    if here { map + (1u16 << i) } else { map }
+}
+
+// The record at that time.
+fn aged(s: Sender, t: u32, now: u64) -> Sender
+    ensures { λ r. ⌜ r ≡ agedAt t now s ⌝ }
+{
+    let address = s.address;
+    let last = s.last;
+    let drop = drops(s, t, now);
+    let die = dies(s, now);
+    let message = message_after(s, drop);
+    let heard = heard_after(s, die);
+    Sender {
+        address,
+        last,
+        open: s.open & !drop,
+        message,
+        alive: s.alive & !die,
+        heard,
+    }
+}
+
+fn message_after(s: Sender, drop: bool) -> Message
+    ensures { λ r. ⌜ r ≡ cond drop noMessage (s .message) ⌝ }
+{
+    if drop {
+        return Message::NONE;
+    }
+    s.message
+}
+
+fn heard_after(s: Sender, die: bool) -> Heard
+    ensures { λ r. ⌜ r ≡ cond die noHeard (s .heard) ⌝ }
+{
+    if die {
+        return Heard::NONE;
+    }
+    s.heard
+}
