@@ -1,28 +1,26 @@
 -- What the cutter writes has a possible cut, with the place and length that the joiner will compute, and its pieces in
 -- order are the message. Assumes nothing.
-use mathlib.Core.Path.{_≡_, refl, sym, ap, _∙_}
-use mathlib.Core.Logic.{_≢_, _⊎_, inl, inr, ⊎-elim}
-use mathlib.Core.Bool.{Bool, true, false, cond, _&&_}
-use mathlib.Core.List.{List, _++_, append-assoc}
-use Prim.Native.Nat.{ℕ, _+_, _-_, _*_, _/_, _%_, _^_, _≤_, _<_}
+use mathlib.Core.Path.{_≡_, refl, ap, _∙_}
+use mathlib.Core.Logic.{⊎-elim}
+use mathlib.Core.Bool.{true, false, cond, _&&_}
+use mathlib.Core.List.{List}
+use Prim.Native.Nat.{ℕ, _+_, _-_, _*_, _%_, _≤_, _<_}
 use native.Mathlib.Nat.{mul-le-mul-right, mul-mod-right, mul-div-right, zero-mul}
 use native.Mathlib.Omega.{arith}
 use lib.Dec.{eqb, leb, ltb}
 use lib.ListN.{length, take, drop, length-append}
 use borrow.Author.Tests.{leb-true, eq-eqb, ne-eqb, le-leb, lt-leb, lt-ltb, le-ltb}
-use Rattle.octets.specs.Split.{lt-or-le, eq-or-ne, both, and-left, and-right}
+use Rattle.octets.specs.Split.{lt-or-le, both, and-left, and-right}
 use Rattle.octets.specs.Run.{run, laid}
 use Rattle.octets.specs.RunLaws.{length-run}
 use Rattle.header.specs.declared.Cut.{Cut}
 use Rattle.header.specs.declared.Given.{Given}
-use Rattle.header.specs.declared.Head.{Head}
-use Rattle.header.specs.Head.{header, headed, headOf}
+use Rattle.header.specs.Head.{header, headed}
 use Rattle.header.specs.HeadLaws.{headed-laid, length-header}
 use Rattle.header.specs.Places.{headerSize}
-use Rattle.cut.specs.declared.cutter.Cutting.{Cutting}
 use Rattle.cut.specs.declared.cutter.Cutting.the-variants.{Written, Refused}
-use Rattle.cut.specs.Pieces.{mostOctets, leastUnit, mostUnit, pieces, piecePlace, pieceLength, piece, joined}
-use Rattle.cut.specs.PiecesLaws.{times, pieces-one, pieces-two, pieces-cover, pieces-below, pieces-most, pieces-some, length-front, length-last, length-only, place-within, piece-end, length-most, pieces-join}
+use Rattle.cut.specs.Pieces.{mostOctets, leastUnit, mostUnit, pieces, piecePlace, pieceLength, piece}
+use Rattle.cut.specs.PiecesLaws.{pieces-one, pieces-two, pieces-cover, pieces-below, pieces-most, length-front, length-last, length-only, place-within, piece-end, length-most}
 use Rattle.cut.specs.Possible.{messageLength, ownLength, unit, place, isUnit, sizesWithin, frontPossible, lastPossible, possible}
 use Rattle.cut.specs.Cutter.{cutFor, headFor, pdu, givenWithin, pieceWithin, limitsWithin, cuts, cutterAnswer, cutterBuffer}
 

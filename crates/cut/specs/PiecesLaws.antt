@@ -1,7 +1,7 @@
 -- Laws of pieces: there are at most 64, they lie side by side, and in order they are the message. Assumes nothing.
-use mathlib.Core.Path.{_≡_, refl, sym, ap, ap₂, _∙_}
-use mathlib.Core.Logic.{_≢_, _⊎_, inl, inr, ⊎-elim}
-use mathlib.Core.List.{List, [], _++_}
+use mathlib.Core.Path.{_≡_, sym, ap, _∙_}
+use mathlib.Core.Logic.{_⊎_, inl, inr, ⊎-elim}
+use mathlib.Core.List.{List, _++_}
 use Prim.Native.Nat.{ℕ, zero, suc, _+_, _-_, _*_, _/_, _≤_, _<_, min}
 use native.Mathlib.Nat.{suc-mul, mul-le-mul, mul-le-mul-right, lt-of-le-of-lt, lt-div-mul-add, div-mul-le-self, zero-mul}
 use native.Mathlib.Omega.{arith}
@@ -9,8 +9,7 @@ use lib.ListN.{length, take}
 use lib.Seq.{take-all}
 use borrow.Author.Tests.{le-leb, lt-leb, lt-ltb, le-ltb}
 use Rattle.octets.specs.Split.{lt-or-le}
-use Rattle.octets.specs.Run.{run}
-use Rattle.octets.specs.RunLaws.{length-run, take-run}
+use Rattle.octets.specs.RunLaws.{take-run}
 use Rattle.cut.specs.Pieces.{mostOctets, leastUnit, pieces, piecePlace, pieceLength, piece, joined}
 
 pub times : (t u : ℕ) → 1 ≤ t → t * u ≡ (t - 1) * u + u

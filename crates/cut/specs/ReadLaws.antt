@@ -1,6 +1,6 @@
 -- What the cutter wrote, read by a receiver: the same header, and the piece behind it. Assumes nothing.
-use mathlib.Core.Path.{_≡_, refl, sym, ap, _∙_}
-use mathlib.Core.Bool.{Bool, true, _&&_}
+use mathlib.Core.Path.{_≡_, ap, _∙_}
+use mathlib.Core.Bool.{true, _&&_}
 use mathlib.Core.List.{List, _++_, append-assoc}
 use Prim.Native.Nat.{ℕ, _+_, _^_, _≤_, _<_}
 use native.Mathlib.Omega.{arith}
@@ -10,17 +10,16 @@ use lib.Seq.{drop-at, take-at}
 use borrow.Author.Tests.{leb-true}
 use Rattle.octets.specs.Split.{and-left, and-right}
 use Rattle.octets.specs.Run.{run}
-use Rattle.ring.specs.Ring.{M, OnRing, isNumber}
+use Rattle.ring.specs.Ring.{OnRing, isNumber}
 use Rattle.ring.specs.RingLaws.{on-ring}
 use Rattle.header.specs.declared.Given.{Given}
-use Rattle.header.specs.declared.Head.{Head}
 use Rattle.header.specs.Codes.{isDataField, isNode, isUser, isMode, isPri}
 use Rattle.header.specs.CodesLaws.{user-code}
 use Rattle.header.specs.Head.{value, header, headOf, isFixed}
 use Rattle.header.specs.HeadLaws.{Fits, read-back, written-fixed, length-header}
 use Rattle.header.specs.Places.{Field, place, headerSize}
 use Rattle.header.specs.Places.Field.{hType, ml, domain, dataField, node, da, vSeq, seq, mCtl, inqId, tcd, ver, gtid, mode, pver, pri, cbn, tbn, bsize, fui}
-use Rattle.cut.specs.Pieces.{pieces, pieceLength, piece}
+use Rattle.cut.specs.Pieces.{pieceLength, piece}
 use Rattle.cut.specs.Cutter.{headFor, pdu, givenWithin, pieceWithin, limitsWithin, cuts}
 use Rattle.cut.specs.CutterLaws.{Within, within-facts, within-short, within-count, length-piece}
 

@@ -1,11 +1,10 @@
 -- Laws of the transaction codes: a user code is one of 1 to 59,999, and no other is. Assumes nothing.
 use mathlib.Core.Path.{_≡_, refl, sym, _∙_}
-use mathlib.Core.Logic.{_⊎_, ⊎-elim}
-use mathlib.Core.Bool.{Bool, true, false, cond, _&&_}
+use mathlib.Core.Bool.{Bool, true, false, cond}
 use Prim.Native.Nat.{ℕ, _≤_}
 use lib.Dec.{eqb, leb}
 use borrow.Author.Tests.{leb-true, le-leb}
-use Rattle.octets.specs.Split.{true-or-false, never-both, both, and-left, and-right}
+use Rattle.octets.specs.Split.{both, and-left, and-right}
 use Rattle.header.specs.declared.codes.Code.the-variants.{User, Alive, System, Neither}
 use Rattle.header.specs.Codes.{within, codeOf, isUserCode, isUser}
 

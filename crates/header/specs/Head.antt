@@ -5,10 +5,6 @@ use Prim.Native.Nat.{ℕ}
 use lib.Dec.{eqb, leb}
 use lib.ListN.{length, drop}
 use Rattle.octets.specs.Number.{number}
-use Rattle.ring.specs.declared.Number.{Number}
-use Rattle.ring.specs.declared.Version.{Version}
-use Rattle.header.specs.declared.DataField.{DataField}
-use Rattle.header.specs.declared.Node.{Node}
 use Rattle.header.specs.declared.Given.{Given}
 use Rattle.header.specs.declared.Cut.{Cut}
 use Rattle.header.specs.declared.Head.{Head}

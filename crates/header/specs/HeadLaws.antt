@@ -1,20 +1,19 @@
 -- Laws of the header: what was written reads back, and is fixed where Table 7 fixes it. Assumes nothing.
 use mathlib.Core.Path.{_≡_, refl, sym, ap, _∙_}
-use mathlib.Core.Bool.{Bool, true, false, cond, _&&_}
+use mathlib.Core.Bool.{true}
 use mathlib.Core.List.{List, [], _∷_, _++_, append-assoc}
-use Prim.Native.Nat.{ℕ, _+_, _-_, _^_, _≤_, _<_}
+use Prim.Native.Nat.{ℕ, _+_, _^_, _≤_, _<_}
 use native.Mathlib.Nat.{zero-add}
 use native.Mathlib.Omega.{arith}
-use lib.Dec.{eqb, leb}
 use lib.ListN.{length, drop, replicate, length-replicate, getD-replicate, length-append, length-drop}
 use lib.Seq.{take-at, drop-drop, drop-append-add}
-use borrow.Author.Tests.{le-leb, lt-leb, eq-eqb}
-use Rattle.octets.specs.Number.{octet, number}
+use borrow.Author.Tests.{le-leb}
+use Rattle.octets.specs.Number.{octet}
 use Rattle.octets.specs.Run.{laid}
 use Rattle.octets.specs.RunLaws.{laid-in, laid-drop, laid-fits, length-laid}
 use Rattle.octets.specs.NumberLaws.{Octets, number-bound}
 use Rattle.header.specs.declared.Head.{Head}
-use Rattle.header.specs.Layout.{Row, layout}
+use Rattle.header.specs.Layout.{Row}
 use Rattle.header.specs.LayoutLaws.{Lit, done, lit, unlit, In, nth-in, fill, fill-append, fill-layout, layout-row, length-layout}
 use Rattle.header.specs.Places.{Field, place, headerSize, row, rows, places-apart, places-end}
 use Rattle.header.specs.Places.Field.{hType, ml, domain, dataField, node, da, vSeq, seq, mCtl, inqId, tcd, ver, gtid, mode, pver, pri, cbn, tbn, bsize, fui}

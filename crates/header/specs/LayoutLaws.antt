@@ -1,7 +1,7 @@
 -- Laws of layouts, over any rows that do not overlap: what is written row by row is the layout, and each row reads back. Assumes nothing.
 use mathlib.Core.Path.{_≡_, refl, sym, ap, _∙_}
 use mathlib.Core.Logic.{_⊎_, inl, inr, ⊎-elim}
-use mathlib.Core.Bool.{Bool, true, false, cond, _&&_, _||_}
+use mathlib.Core.Bool.{Bool, true, false, _||_}
 use mathlib.Core.List.{List, [], _∷_, _++_}
 use Prim.Native.Nat.{ℕ, zero, suc, _+_, _-_, _^_, _≤_, _<_}
 use native.Mathlib.Nat.{zero-div, zero-mod}
@@ -9,13 +9,13 @@ use native.Mathlib.Omega.{arith}
 use lib.Dec.{leb, ltb}
 use lib.ListN.{length, drop, length-append, length-drop, List·getD-append}
 use lib.Seq.{ext-getD, getD-at, getD-append-add, getD-drop}
-use borrow.Author.Tests.{leb-true, ltb-true, le-leb, lt-leb, lt-ltb, le-ltb}
+use borrow.Author.Tests.{leb-true, ltb-true, le-leb, lt-ltb}
 use Rattle.octets.specs.Number.{octet, number, octets}
 use Rattle.octets.specs.NumberLaws.{length-octets, number-ext, number-octets-fits}
 use Rattle.octets.specs.Run.{laid}
 use Rattle.octets.specs.RunLaws.{laid-in, laid-out, length-laid}
 use Rattle.octets.specs.Split.{lt-or-le, true-or-false, never-both, both, not-both, and-left, and-right, either}
-use Rattle.header.specs.Layout.{Row, end, holds, octetOf, tabulate, layout, apartFrom, apart, endsBy, held, covers}
+use Rattle.header.specs.Layout.{Row, end, holds, octetOf, tabulate, layout, apartFrom, apart, endsBy}
 
 -- ---- tabulated lists
 

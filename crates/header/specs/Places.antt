@@ -4,7 +4,7 @@ use mathlib.Core.Path.{_≡_, refl}
 use mathlib.Core.Bool.{true}
 use mathlib.Core.List.{List, [], _∷_}
 use Prim.Native.Nat.{ℕ}
-use Rattle.header.specs.Layout.{Row, octetOf, apartFrom, apart, endsBy, held, covers}
+use Rattle.header.specs.Layout.{Row, apartFrom, apart, endsBy, held, covers}
 
 -- The fields of Table 7, SA in its three parts: domain, data field, node.
 pub data Field : Type 0 where

@@ -3,12 +3,9 @@
 // Every function is total. An octet past the end of a packet reads as 0, and a buffer that is shorter than a header stays
 // as it is. Which values are admitted is said in codes.rt; reading and writing take any.
 ghost use mathlib.Core.Path.{_≡_};
-ghost use mathlib.Core.Bool.{_&&_};
-ghost use Prim.Native.Nat.{_≤_};
 ghost use lib.Dec.{eqb};
-ghost use lib.ListN.{length};
 ghost use Rattle.header.specs.Codes.{isDataField, isNode};
-ghost use Rattle.header.specs.Head.{valueAt, givenOf, cutOf, headOf, headed, header, isFixed};
+ghost use Rattle.header.specs.Head.{valueAt, givenOf, cutOf, headOf, headed, isFixed};
 ghost use Rattle.header.specs.HeadLaws.{addressRows, numberRows, pieceRows};
 ghost use Rattle.header.specs.LayoutLaws.{fill};
 ghost use Rattle.header.specs.Places.Field.{inqId};

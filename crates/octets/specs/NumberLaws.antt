@@ -3,7 +3,7 @@ use mathlib.Core.Path.{_≡_, refl, sym, ap, ap₂, _∙_}
 use mathlib.Core.Logic.{_⊎_, inl, inr, ⊎-elim}
 use mathlib.Core.List.{List, [], _∷_, _++_}
 use Prim.Native.Nat.{ℕ, zero, suc, _+_, _*_, _/_, _%_, _^_, _≤_, _<_}
-use native.Mathlib.Nat.{add-zero, add-suc, add-assoc, zero-add, mul-one, mul-assoc, pow-suc, pow-zero, add-mul, mod-one, mod-eq-of-lt, mul-le-mul-right}
+use native.Mathlib.Nat.{add-zero, add-suc, zero-add, mul-assoc, pow-suc, add-mul, mod-one, mod-eq-of-lt, mul-le-mul-right}
 use native.Mathlib.Omega.{arith}
 use mathlib.Core.Bool.{_&&_}
 use lib.Arith.{mod-mul, digits-lt}

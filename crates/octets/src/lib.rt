@@ -3,7 +3,6 @@
 // Every function is total. An octet past the end of a slice reads as 0. What would reach past the end is not laid
 // down at all, and the slice stays as it is. Nothing here knows of ADP.
 ghost use mathlib.Core.Path.{_≡_};
-ghost use mathlib.Core.List.{List, [], _∷_};
 ghost use Prim.Native.Nat.{_+_, _≤_, _<_};
 ghost use lib.ListN.{length, drop};
 ghost use Rattle.octets.specs.Number.{number, octets};

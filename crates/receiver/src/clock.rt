@@ -1,7 +1,7 @@
 // The clock call: the only one that moves time. It drops old messages and calls silent senders dead.
 ghost use mathlib.Core.Path.{_≡_};
 ghost use mathlib.Core.Bool.{cond};
-ghost use Prim.Native.Nat.{_+_, _-_, _*_, _^_, _≤_, _<_};
+ghost use Prim.Native.Nat.{_+_, _-_, _*_, _^_, _<_};
 ghost use Rattle.rules.specs.Clock.{drops as dropsAt, dies as diesAt, aged as agedAt, clockAnswer};
 ghost use Rattle.rules.specs.State.{noMessage, noHeard};
 use rules::Address;

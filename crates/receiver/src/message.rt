@@ -1,7 +1,7 @@
 // The message call. One function holds the state: it finds the sender's place, copies that one record out, and puts it back.
 ghost use mathlib.Core.Path.{_≡_};
 ghost use mathlib.Core.Bool.{true};
-ghost use Prim.Native.Nat.{_+_, _<_, _≤_};
+ghost use Prim.Native.Nat.{_+_, _<_};
 ghost use lib.ListN.{length};
 ghost use Rattle.cut.specs.Possible.{possible};
 ghost use Rattle.rules.specs.Admit.{refusedNumber};

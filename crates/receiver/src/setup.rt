@@ -1,6 +1,5 @@
 // Setup: the state that a node starts with.
 ghost use mathlib.Core.Path.{_≡_};
-ghost use mathlib.Core.Bool.{true};
 ghost use Prim.Native.Nat.{_≤_};
 ghost use Rattle.rules.specs.Setup.{setupWithin, newSenders, setupState, setupAnswer};
 ghost use Rattle.rules.specs.State.{newSender};

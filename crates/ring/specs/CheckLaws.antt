@@ -1,15 +1,14 @@
 -- Facts of the number check, over any kept version RV and number R: exactly one verdict applies. Assumes nothing.
-use mathlib.Core.Path.{_≡_, refl, sym, ap, _∙_}
-use mathlib.Core.Logic.{_≢_, _⊎_, inl, inr, ⊎-elim}
-use mathlib.Core.Bool.{Bool, true, false, cond, not, _&&_}
-use Prim.Native.Nat.{ℕ, _+_, _-_, _≤_, _<_}
-use native.Mathlib.Omega.{arith}
+use mathlib.Core.Path.{_≡_, sym, _∙_}
+use mathlib.Core.Logic.{_≢_, ⊎-elim}
+use mathlib.Core.Bool.{false, cond, _&&_}
+use Prim.Native.Nat.{ℕ, _-_, _≤_, _<_}
 use lib.Dec.{eqb, ltb}
-use borrow.Author.Tests.{eqb-true, eqb-false, eq-eqb, ne-eqb, lt-ltb, le-ltb}
-use Rattle.octets.specs.Split.{lt-or-le, eq-or-ne, true-or-false, and-left, and-right, both, not-both, never-both}
+use borrow.Author.Tests.{eqb-true, eq-eqb, ne-eqb, lt-ltb, le-ltb}
+use Rattle.octets.specs.Split.{lt-or-le, eq-or-ne, not-both}
 use Rattle.ring.specs.declared.Verdict.{Verdict}
 use Rattle.ring.specs.declared.Verdict.the-variants.{Unchecked, First, Restart, Repeat, Next, Gap}
-use Rattle.ring.specs.Ring.{M, OnRing, back, skipped}
+use Rattle.ring.specs.Ring.{M, back, skipped}
 use Rattle.ring.specs.RingLaws.{skipped-back}
 use Rattle.ring.specs.Check.{check, rule4}
 

@@ -1,15 +1,15 @@
 -- Table 14 of ADP R3.0 as it is printed in 001, and that rule 4 is this table for R and SEQ 1 to M and N1 1 to 1,024. Assumes nothing.
-use mathlib.Core.Path.{_≡_, refl, sym, ap, _∙_}
-use mathlib.Core.Logic.{_≢_, _⊎_, inl, inr, ⊎-elim}
+use mathlib.Core.Path.{_≡_}
+use mathlib.Core.Logic.{_≢_, ⊎-elim}
 use mathlib.Core.Bool.{Bool, true, false, cond, not, _&&_, _||_}
 use Prim.Native.Nat.{ℕ, _+_, _-_, _≤_, _<_}
 use native.Mathlib.Omega.{arith}
 use lib.Dec.{eqb, ltb, leb}
-use borrow.Author.Tests.{eqb-true, eqb-false, eq-eqb, ne-eqb, lt-ltb, le-ltb, le-leb, ltb-true, leb-true, not-true}
+use borrow.Author.Tests.{eqb-true, eq-eqb, ne-eqb, lt-ltb, le-ltb, le-leb, ltb-true, leb-true}
 use Rattle.octets.specs.Split.{lt-or-le, eq-or-ne, same-test, both, and-left, and-right, or-left, or-right, either, not-both}
 use Rattle.ring.specs.declared.Verdict.{Verdict}
 use Rattle.ring.specs.declared.Verdict.the-variants.{Unchecked, First, Restart, Repeat, Next, Gap}
-use Rattle.ring.specs.Ring.{M, OnRing, back, skipped}
+use Rattle.ring.specs.Ring.{M, OnRing, back}
 use Rattle.ring.specs.RingLaws.{back-below, back-above}
 use Rattle.ring.specs.Check.{rule4}
 

@@ -1,24 +1,22 @@
 -- Laws of admission: what is known where no number of 15 to 20 applies. Assumes nothing.
-use mathlib.Core.Path.{_≡_, refl, sym, ap, _∙_}
+use mathlib.Core.Path.{_≡_, refl, sym, _∙_}
 use mathlib.Core.Bool.{Bool, true, false, not, cond, _&&_}
-use mathlib.Core.List.{List, [], _∷_}
-use Prim.Native.Nat.{ℕ, _+_, _≤_}
+use Prim.Native.Nat.{ℕ, _≤_}
 use native.Mathlib.Omega.{arith}
 use lib.Dec.{eqb}
 use borrow.Author.Tests.{eq-eqb, ne-eqb, eqb-true, not-false}
 use Rattle.octets.specs.Split.{cond-case, never-both}
 use Rattle.ring.specs.Check.{isRepeat}
-use Rattle.ring.specs.Ring.{newer}
 use Rattle.header.specs.declared.Head.{Head}
 use Rattle.cut.specs.Possible.{possible}
-use Rattle.cut.specs.PossibleLaws.{Possible, possible-facts, possible-most}
+use Rattle.cut.specs.PossibleLaws.{possible-facts, possible-most}
 use Rattle.rules.specs.declared.Sender.{Sender}
 use Rattle.rules.specs.declared.answers.Admission.{Admission}
 use Rattle.rules.specs.declared.answers.Outcome.{Outcome}
 use Rattle.rules.specs.Admit.{rejoins, sameCut, verdictOf, senderRows, mapAfter, fills, admitted, notAdmitted, admission, refusedNumber}
-use Rattle.rules.specs.First.{Row, row, first}
+use Rattle.rules.specs.First.{first}
 use Rattle.rules.specs.FirstLaws.{first-none}
-use Rattle.rules.specs.Map.{holds, pieceBit, marked}
+use Rattle.rules.specs.Map.{holds, marked}
 use Rattle.rules.specs.MapLaws.{marked-adds, holds-zero}
 
 -- An admitted PDU has a possible cut, is no repeat, is not older than the open message, has its cut if it belongs to it, and

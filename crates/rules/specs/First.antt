@@ -1,7 +1,7 @@
 -- "The lowest number that applies is given": the rows of a table of numbers in the order in which they are tried, the first
 -- whose condition holds.
 use Prim.Native.Nat.{ℕ}
-use mathlib.Core.Bool.{Bool, true, false, cond}
+use mathlib.Core.Bool.{Bool, cond}
 use mathlib.Core.List.{List, [], _∷_}
 
 -- A row: "given exactly when".

@@ -1,6 +1,6 @@
 -- The map of pieces held: "piece c at bit c − 1, bit 0 lowest".
 use Prim.Native.Nat.{ℕ, zero, suc, _+_, _-_, _/_, _%_, _^_}
-use mathlib.Core.Bool.{Bool, true, false, not, cond, _&&_}
+use mathlib.Core.Bool.{Bool, not, cond, _&&_}
 use lib.Dec.{eqb, leb, ltb}
 
 -- Bit k of a number, bit 0 lowest.

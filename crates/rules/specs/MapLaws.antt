@@ -1,18 +1,17 @@
 -- Laws of the map, and what the code's shifts say of its bits. Assumes nothing.
 use mathlib.Core.Path.{_≡_, refl, sym, ap, _∙_}
-use mathlib.Core.Logic.{_≢_, _⊎_, inl, inr, ⊎-elim}
-use mathlib.Core.Bool.{Bool, true, false, not, cond, _&&_}
-use Prim.Native.Nat.{ℕ, zero, suc, _+_, _-_, _*_, _/_, _%_, _^_, _≤_, _<_, min}
+use mathlib.Core.Logic.{_≢_, ⊎-elim}
+use mathlib.Core.Bool.{false}
+use Prim.Native.Nat.{ℕ, zero, suc, _+_, _-_, _*_, _/_, _%_, _^_, _≤_, _<_}
 use native.Mathlib.Nat.{div-one, min-zero, mod-eq-of-lt, one-mul}
 use native.Mathlib.Numerals.{one-add}
 use native.Mathlib.Omega.{arith}
 use lib.Bits.{bitAnd, bitOr, and-step, and-zero-r, and-mask, or-disjoint}
-use lib.Count.{ones, ones-step, ones-le, trailingZeros}
-use lib.Dec.{eqb, leb, ltb}
+use lib.Count.{ones, ones-step, trailingZeros}
 use lib.Pow.{pow-pos, pow-mono, pow-lt, shr-shr, high, ones-split, ones-lt}
 use borrow.Author.Tests.{eqb-false, ne-eqb, le-leb}
-use Rattle.octets.specs.Split.{lt-or-le, eq-or-ne}
-use Rattle.rules.specs.Map.{bit, holds, pieceBit, fullMap, marked, lowest, lowestMissing}
+use Rattle.octets.specs.Split.{eq-or-ne}
+use Rattle.rules.specs.Map.{bit, holds, pieceBit, fullMap, marked, lowest}
 
 -- ---- bits
 

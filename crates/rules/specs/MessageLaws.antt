@@ -1,9 +1,9 @@
 -- Laws of the message call: one pass over the table, and what is answered by what the judges found. Assumes nothing.
 use mathlib.Core.Path.{_≡_, refl, sym, ap, _∙_}
-use mathlib.Core.Logic.{_⊎_, ⊎-elim}
+use mathlib.Core.Logic.{⊎-elim}
 use mathlib.Core.Bool.{Bool, true, false, not, cond, _&&_, _||_}
-use mathlib.Core.List.{List, [], _∷_, _++_}
-use Prim.Native.Nat.{ℕ, zero, suc, _+_, _*_, _≤_, _<_}
+use mathlib.Core.List.{List}
+use Prim.Native.Nat.{ℕ, _+_, _*_, _≤_, _<_}
 use native.Mathlib.Numerals.{add-one}
 use native.Mathlib.Omega.{arith}
 use lib.Dec.{eqb, leb, ltb}
@@ -22,7 +22,7 @@ use Rattle.rules.specs.declared.answers.Answer.{Answer}
 use Rattle.rules.specs.declared.answers.Where.{Where}
 use Rattle.rules.specs.Admit.{senderRows, admission, admitted, refusedNumber}
 use Rattle.rules.specs.AdmitLaws.{Admitted, admitted-facts, admission-yes, admission-number}
-use Rattle.rules.specs.First.{Row, row, first}
+use Rattle.rules.specs.First.{first}
 use Rattle.rules.specs.FirstLaws.{first-here, first-none, first-append, numbered}
 use Rattle.rules.specs.Limits.{sameAddress, addressAt, sendersMost, settingsWithin, sendersWithin, valid}
 use Rattle.rules.specs.LimitsLaws.{valid-count}

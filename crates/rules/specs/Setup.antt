@@ -1,9 +1,9 @@
 -- Setup: "takes the node's mode (online or test), N1 (1 to 1,024), the drop time T in ms (1 to 600,000) and 1 to 16 senders, each a
 -- data field and a node, no pair twice".
 use Prim.Native.Nat.{ℕ, zero, suc}
-use mathlib.Core.Bool.{Bool, true, not, cond, _&&_}
-use mathlib.Core.List.{List, [], _∷_, _++_}
-use lib.Dec.{eqb, leb, ltb}
+use mathlib.Core.Bool.{Bool, true, cond, _&&_}
+use mathlib.Core.List.{List}
+use lib.Dec.{eqb, leb}
 use lib.ListN.{getD, set, replicate}
 use Rattle.header.specs.Codes.{within}
 use Rattle.rules.specs.declared.Address.{Address}

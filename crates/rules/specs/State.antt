@@ -1,12 +1,7 @@
 -- The state at its start: what is not there is 0.
 use Prim.Native.Nat.{ℕ}
-use mathlib.Core.Bool.{true, false}
-use mathlib.Core.List.{List}
+use mathlib.Core.Bool.{false}
 use lib.ListN.{getD, replicate}
-use Rattle.ring.specs.declared.Version.{Version}
-use Rattle.ring.specs.declared.Number.{Number}
-use Rattle.header.specs.declared.DataField.{DataField}
-use Rattle.header.specs.declared.Node.{Node}
 use Rattle.rules.specs.declared.Last.{Last}
 use Rattle.rules.specs.declared.Message.{Message}
 use Rattle.rules.specs.declared.Heard.{Heard}

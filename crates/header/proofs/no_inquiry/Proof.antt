@@ -1,5 +1,4 @@
 -- The 12 octets are a number of 8 and one of 4. Assumes nothing.
-use mathlib.Core.Path.{_∙_}
 use denote.Ref.{now}
 use Rattle.octets.specs.NumberLaws.{number-zero}
 use borrow.Author.Needs.{needs}

@@ -1,6 +1,5 @@
 -- The part from a place on is what `drop` leaves. Assumes nothing.
-use mathlib.Core.Path.{sym, _∙_}
-use Prim.Native.Nat.{_-_, _≤_}
+use Prim.Native.Nat.{_-_}
 use denote.Ref.{now}
 use native.Mathlib.Omega.{arith}
 use lib.ListN.{length, length-drop, drop, drop-of-length-le}

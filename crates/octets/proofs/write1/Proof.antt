@@ -1,7 +1,6 @@
 -- The octet is laid down as a run of one. Assumes nothing.
 use mathlib.Core.Path.{_≡_}
 use Prim.Native.Nat.{_%_}
-use native.Mathlib.Nat.{mod-eq-of-lt}
 use native.Mathlib.Omega.{arith}
 use Rattle.octets.specs.Number.{octets}
 use borrow.Author.Needs.{needs}

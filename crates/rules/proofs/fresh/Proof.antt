@@ -1,6 +1,6 @@
 -- The first j addresses have been compared. Assumes nothing.
-use Prim.Native.Nat.{_≤_, _-_, suc}
-use mathlib.Core.Path.{_≡_, refl, ap, _∙_}
+use Prim.Native.Nat.{_≤_, _-_}
+use mathlib.Core.Path.{_≡_, refl}
 use native.Mathlib.Omega.{arith}
 use native.Mathlib.Numerals.{add-one}
 use Rattle.rules.specs.Limits.{newAmong}

@@ -1,5 +1,5 @@
 -- Refused by its number, or admitted. Assumes nothing.
-use mathlib.Core.Path.{_≡_, refl, sym, ap, _∙_}
+use mathlib.Core.Path.{sym, _∙_}
 use Rattle.rules.specs.Admit.{notAdmitted}
 use Rattle.rules.specs.AdmitLaws.{admitted-facts, admission-yes, admission-no}
 use borrow.Author.Needs.{needs}

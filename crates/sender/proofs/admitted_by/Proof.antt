@@ -1,8 +1,7 @@
 -- Each part is that of the definition. Assumes nothing.
-use mathlib.Core.Path.{_≡_, refl, sym, ap, _∙_}
-use Prim.Native.Nat.{_≤_}
+use mathlib.Core.Path.{sym, _∙_}
 use native.Mathlib.Omega.{arith}
-use lib.Count.{ones, ones-le}
+use lib.Count.{ones-le}
 use Rattle.rules.specs.Admit.{admitted, fills, heldAfter, senderAfter}
 use borrow.Author.Needs.{needs}
 use Rattle.sender.proofs.admitted_by.Statement.{statement}

@@ -1,5 +1,5 @@
 -- The test is that of the definition. Assumes nothing.
-use mathlib.Core.Path.{_≡_, refl, sym, ap, _∙_}
+use mathlib.Core.Path.{sym, ap, _∙_}
 use mathlib.Core.Bool.{Bool, not, _&&_}
 use Rattle.rules.specs.Admit.{droppedBy}
 use borrow.Author.Needs.{needs}

@@ -1,5 +1,5 @@
 -- The piece of an admitted PDU is marked. Assumes nothing.
-use mathlib.Core.Path.{_≡_, refl, sym, ap, _∙_}
+use mathlib.Core.Path.{sym, _∙_}
 use Rattle.rules.specs.AdmitLaws.{map-again, map-new}
 use borrow.Author.Needs.{needs}
 use Rattle.sender.proofs.map_after.Statement.{statement}

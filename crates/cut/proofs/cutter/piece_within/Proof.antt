@@ -1,5 +1,4 @@
 -- Each test is that of the definition. Assumes nothing.
-use mathlib.Core.Path.{_≡_, refl, sym, ap, _∙_}
 use Rattle.cut.specs.Cutter.{pieceWithin}
 use borrow.Author.Needs.{needs}
 use Rattle.cut.proofs.cutter.piece_within.Statement.{statement}

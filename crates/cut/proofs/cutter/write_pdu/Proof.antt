@@ -1,9 +1,6 @@
 -- The header is written, and the piece laid down behind it. Assumes nothing.
-use mathlib.Core.Path.{_≡_, refl, sym, ap, _∙_}
-use Prim.Native.Nat.{_+_, _≤_}
 use native.Mathlib.Omega.{arith}
 use denote.Ref.{now}
-use lib.ListN.{length}
 use Rattle.cut.specs.CutterLaws.{within-facts, within-short, within-end, within-count, pdu-written}
 use borrow.Author.Needs.{needs}
 use Rattle.cut.proofs.cutter.write_pdu.Statement.{statement}

@@ -1,6 +1,5 @@
 -- Piece c starts behind c - 1 pieces. Assumes nothing.
-use mathlib.Core.Path.{_≡_, refl, sym, ap, _∙_}
-use Prim.Native.Nat.{_-_, _*_, _≤_}
+use mathlib.Core.Path.{_≡_, sym}
 use native.Mathlib.Nat.{zero-mul}
 use Rattle.cut.specs.PiecesLaws.{product-below}
 use native.Mathlib.Omega.{arith}

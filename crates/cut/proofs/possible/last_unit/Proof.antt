@@ -1,5 +1,5 @@
 -- Nothing divided by nothing is 0, as in the definition. Assumes nothing.
-use mathlib.Core.Path.{_≡_, _∙_}
+use mathlib.Core.Path.{_≡_}
 use Prim.Native.Nat.{_-_}
 use native.Mathlib.Nat.{div-zero}
 use native.Mathlib.Omega.{arith}

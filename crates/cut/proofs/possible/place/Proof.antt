@@ -1,6 +1,6 @@
 -- The piece starts behind CBN - 1 pieces of u. Assumes nothing.
-use mathlib.Core.Path.{_≡_, refl, sym, ap, _∙_}
-use Prim.Native.Nat.{ℕ, _-_, _*_, _≤_}
+use mathlib.Core.Path.{_≡_, sym, ap, _∙_}
+use Prim.Native.Nat.{ℕ, _-_, _*_}
 use native.Mathlib.Nat.{zero-mul}
 use Rattle.cut.specs.PiecesLaws.{product-below}
 use native.Mathlib.Omega.{arith}

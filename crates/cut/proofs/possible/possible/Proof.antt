@@ -1,6 +1,5 @@
 -- Each return is the conjunction as far as the tests before it decide it. Assumes nothing.
-use mathlib.Core.Path.{_≡_, refl, sym, ap, _∙_}
-use native.Mathlib.Omega.{arith}
+use mathlib.Core.Path.{sym, _∙_}
 use borrow.Author.Tests.{eq-eqb, ne-eqb, lt-ltb, le-ltb, le-leb, lt-leb, not-true, not-false}
 use Rattle.cut.specs.Possible.{possible}
 use borrow.Author.Needs.{needs}

@@ -1,5 +1,5 @@
 -- Each return is the arm that the tests before it lead to. Assumes nothing.
-use mathlib.Core.Path.{_≡_, _∙_}
+use mathlib.Core.Path.{_∙_}
 use borrow.Author.Tests.{eq-eqb, ne-eqb, lt-ltb, le-ltb}
 use Rattle.cut.specs.Possible.{unit}
 use borrow.Author.Needs.{needs}

@@ -1,10 +1,9 @@
 -- After i turns the first i senders have aged. Assumes nothing.
-use Prim.Native.Nat.{ℕ, _≤_, _<_, _-_, _^_}
+use Prim.Native.Nat.{_≤_, _-_}
 use mathlib.Core.Path.{_≡_, refl, sym, ap, _∙_}
 use native.Mathlib.Omega.{arith}
 use borrow.Author.Needs.{needs}
 use borrow.Author.Tests.{not-true, not-false}
-use lib.ListN.{getD}
 use Rattle.rules.specs.Clock.{drops, dies, agedSenders, mapWhere, notTicked}
 use Rattle.rules.specs.ClockLaws.{withSenders, map-again, map-below, state-more, ticked-is, clock-nine, clock-back, clock-on}
 use Rattle.rules.specs.LimitsLaws.{valid-count}

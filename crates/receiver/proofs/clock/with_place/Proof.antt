@@ -1,6 +1,5 @@
 -- A place that is not in the map yet is added to it. Assumes nothing.
-use mathlib.Core.Path.{_≡_, refl, sym, ap, _∙_}
-use native.Mathlib.Omega.{arith}
+use mathlib.Core.Path.{sym}
 use native.Mathlib.Nat.{add-zero}
 use Rattle.rules.specs.ClockLaws.{shift-sixteen, place-fits}
 use borrow.Author.Needs.{needs}

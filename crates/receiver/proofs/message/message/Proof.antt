@@ -1,6 +1,5 @@
 -- One pass over the table, two judges, and what an admitted PDU does. Assumes nothing.
-use mathlib.Core.Path.{_≡_, refl, sym, ap, _∙_}
-use Prim.Native.Nat.{_≤_, _<_}
+use mathlib.Core.Path.{sym, _∙_}
 use native.Mathlib.Omega.{arith}
 use denote.Ref.{now}
 use Rattle.rules.specs.MessageLaws.{pass-refused, pass-facts, pass-place, pass-late, pass-admitted, pass-taken}

@@ -1,8 +1,6 @@
 -- A piece of several is the whole of the packet behind its header. Assumes nothing.
-use mathlib.Core.Path.{_≡_, refl, sym, ap, _∙_}
-use Prim.Native.Nat.{_≤_, _-_}
+use mathlib.Core.Path.{_∙_}
 use native.Mathlib.Omega.{arith}
-use denote.Ref.{now}
 use borrow.Author.Tests.{eq-eqb, ne-eqb}
 use Rattle.cut.specs.PossibleLaws.{possible-facts, possible-within}
 use Rattle.octets.specs.Run.{run}

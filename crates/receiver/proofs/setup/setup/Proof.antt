@@ -1,5 +1,5 @@
 -- Refused with the empty state, or started. Assumes nothing.
-use mathlib.Core.Path.{_≡_, refl, sym, ap, _∙_}
+use mathlib.Core.Path.{sym, _∙_}
 use borrow.Author.Tests.{not-true, not-false}
 use Rattle.rules.specs.Setup.{setupAnswer}
 use Rattle.rules.specs.SetupLaws.{setup-count}

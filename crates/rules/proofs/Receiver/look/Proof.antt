@@ -1,11 +1,11 @@
 -- After i turns the first i senders have been judged, found and seen. Assumes nothing.
 use Prim.Native.Nat.{ℕ, _≤_, _<_, _-_}
-use mathlib.Core.Path.{_≡_, refl, sym, ap, _∙_}
+use mathlib.Core.Path.{_≡_, refl, sym, _∙_}
 use mathlib.Core.Bool.{_&&_, and-true}
 use native.Mathlib.Omega.{arith}
 use borrow.Author.Needs.{needs}
 use borrow.Author.Tests.{lt-leb}
-use lib.ListN.{length, length-set, length-replicate}
+use lib.ListN.{length, length-set}
 use Rattle.rules.specs.Limits.{sendersWithin, addressAt}
 use Rattle.rules.specs.LimitsLaws.{new-ext, seen-more, senders-more, valid-few}
 use Rattle.rules.specs.Message.{find, lookAt}

@@ -1,7 +1,4 @@
 -- A shift and a mask are the bit. Assumes nothing.
-use mathlib.Core.Path.{_≡_, refl, sym, ap, _∙_}
-use Prim.Native.Nat.{ℕ}
-use lib.Dec.{eqb}
 use Rattle.rules.specs.MapLaws.{code-bit}
 use borrow.Author.Needs.{needs}
 use Rattle.rules.proofs.map.bit_of.Statement.{statement}

@@ -1,5 +1,5 @@
 -- All ones, shifted down to t of them. Assumes nothing.
-use mathlib.Core.Path.{_≡_, refl, sym, ap, _∙_}
+use mathlib.Core.Path.{_≡_}
 use Rattle.rules.specs.MapLaws.{code-full}
 use borrow.Author.Needs.{needs}
 use Rattle.rules.proofs.map.full.Statement.{statement}

@@ -1,5 +1,5 @@
 -- No bit past the 64th is set. Assumes nothing.
-use mathlib.Core.Path.{_≡_, refl, sym, ap, _∙_}
+use mathlib.Core.Path.{sym, _∙_}
 use native.Mathlib.Omega.{arith}
 use Rattle.rules.specs.MapLaws.{holds-above}
 use borrow.Author.Needs.{needs}

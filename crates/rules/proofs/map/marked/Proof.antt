@@ -1,8 +1,6 @@
 -- A piece that is not held is marked. Assumes nothing.
-use mathlib.Core.Path.{_≡_, refl, sym, ap, _∙_}
+use mathlib.Core.Path.{sym, _∙_}
 use native.Mathlib.Omega.{arith}
-use Prim.Native.Nat.{ℕ, _+_, _^_}
-use mathlib.Core.Bool.{and-false}
 use borrow.Author.Tests.{le-leb, lt-leb}
 use Rattle.rules.specs.Map.{marked, holds}
 use Rattle.rules.specs.MapLaws.{holds-not}
