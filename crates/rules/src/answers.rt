@@ -1,4 +1,5 @@
-// What the calls take and answer. An outcome is an enum; specs/Answers.antt has 01's number for each of its cases.
+// What the calls take and answer. 01's number for each case of an enum is `outcomeNumber` of specs/Admit.antt and `callNumber`
+// of specs/Setup.antt.
 
 use crate::Address;
 use crate::Receiver;
