@@ -22,6 +22,16 @@ isUserCode Neither = false
 abbrev pub isUser : ℕ → Bool
 isUser n = isUserCode (codeOf n)
 
+-- "of which 60,003 is the alive signal"
+abbrev pub isAliveCode : Code → Bool
+isAliveCode User = false
+isAliveCode Alive = true
+isAliveCode System = false
+isAliveCode Neither = false
+
+abbrev pub isAlive : ℕ → Bool
+isAlive n = isAliveCode (codeOf n)
+
 -- "MODE … (0 = Online mode, 1 = Test mode)"
 abbrev pub isMode : ℕ → Bool
 isMode m = leb m 1

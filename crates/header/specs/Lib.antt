@@ -5,3 +5,5 @@ pub mod Head
 pub mod HeadLaws
 pub mod Codes
 pub mod CodesLaws
+pub mod AlivePlaces
+pub mod Alive

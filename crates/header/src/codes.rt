@@ -1,6 +1,6 @@
 // The numbers that 01 admits in a header's fields.
 ghost use mathlib.Core.Path.{_≡_};
-ghost use Rattle.header.specs.Codes.{codeOf, isUserCode, isMode, isPri};
+ghost use Rattle.header.specs.Codes.{codeOf, isUserCode, isAliveCode, isMode, isPri};
 
 // Whose a transaction code is.
 pub enum Code {
@@ -18,6 +18,18 @@ impl Code {
         match self {
             Code::User => true,
             Code::Alive => false,
+            Code::System => false,
+            Code::Neither => false,
+        }
+    }
+
+    // Alive signals carry 60,003 only.
+    pub fn is_alive(self) -> bool
+        ensures { λ r. ⌜ r ≡ isAliveCode self ⌝ }
+    {
+        match self {
+            Code::User => false,
+            Code::Alive => true,
             Code::System => false,
             Code::Neither => false,
         }

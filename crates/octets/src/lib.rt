@@ -37,8 +37,8 @@ pub fn read8(s: &[u8], at: usize) -> u64
     wide4(read4(t, 0)) * 4_294_967_296 + wide4(read4(t, 4))
 }
 
-// The part of a slice from a place on, so that no place is counted past the largest usize.
-fn from(s: &[u8], at: usize) -> &[u8]
+// The part of a slice from a place on, empty past its end, so that no place is counted past the largest usize.
+pub fn from(s: &[u8], at: usize) -> &[u8]
     ensures { λ r. ⌜ now r ≡ drop at (now (s .entry)) ⌝ }
 {
     if at < s.len() {

@@ -2,7 +2,7 @@
 //
 // Every public function is total: any state, any storage and any octets may come, and each meets its number.
 
-pub mod clock;
 pub mod message;
 pub mod part;
+pub mod question;
 pub mod setup;

@@ -6,7 +6,7 @@ ghost use lib.ListN.{length};
 ghost use Rattle.cut.specs.Possible.{possible};
 ghost use Rattle.rules.specs.Admit.{refusedNumber};
 ghost use Rattle.rules.specs.First.{first};
-ghost use Rattle.rules.specs.Message.{source as sourceOf, packetRows, headWithin, storageAfter, liesAt, whereBy, messageAnswer, messageStorage};
+ghost use Rattle.rules.specs.Message.{packetRows, headWithin, storageAfter, liesAt, whereBy, messageAnswer, messageStorage};
 use cut::possible::message_length;
 use cut::possible::place;
 use header::Head;
@@ -19,12 +19,12 @@ use header::read_head;
 use octets::lay;
 use ring::Number;
 use ring::Version;
-use rules::Address;
 use rules::Receiver;
 use rules::answers::Answer;
 use rules::answers::Dropped;
 use rules::answers::Outcome;
 use rules::answers::Where;
+use rules::source;
 use sender::admit;
 
 const NONE_DROPPED: Dropped = Dropped {
@@ -74,16 +74,6 @@ pub fn message(mut state: Receiver, storage: &mut [u8], packet: &[u8]) -> Answer
         place: to,
         state,
     }
-}
-
-// Where a PDU comes from.
-fn source(h: Head) -> Address
-    ensures { λ r. ⌜ r ≡ sourceOf h ⌝ }
-{
-    let given = h.given;
-    let field = given.field;
-    let node = given.node;
-    Address { field, node }
 }
 
 // The first of 9 and 11 to 14 that applies, or 0.

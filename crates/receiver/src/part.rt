@@ -2,17 +2,14 @@
 ghost use mathlib.Core.Path.{_≡_};
 ghost use Rattle.rules.specs.Part.{behindHeader, storedPart, partOf};
 use header::SIZE;
+use octets::from;
 use rules::answers::Where;
 
 // A message of one piece: the packet behind its header.
 pub fn behind_header(packet: &[u8]) -> &[u8]
     ensures { λ r. ⌜ now r ≡ behindHeader (now (packet .entry)) ⌝ }
 {
-    if SIZE <= packet.len() {
-        &packet[SIZE..]
-    } else {
-        &packet[packet.len()..]
-    }
+    from(packet, SIZE)
 }
 
 // A message of several pieces: the storage from where it starts.

@@ -14,3 +14,7 @@ pub mod Part
 pub mod SetupLaws
 pub mod Clock
 pub mod ClockLaws
+pub mod Alive
+pub mod AliveLaws
+pub mod Question
+pub mod QuestionLaws

@@ -133,6 +133,15 @@ code-lowest (suc n) m h = ⊎-elim
     rw (o, d, z) (ap suc (code-lowest n (m / 2) (omega arith))))
     (eq-or-ne (m % 2) 0)
 
+-- The lowest clear bit is the first that is found in their order.
+pub lowest-first : (n k m : ℕ) → k < n → ((j : ℕ) → j < k → bit j m ≡ 1) → bit k m ≡ 0 → lowest n m ≡ k
+unfolding bit lowest
+lowest-first zero k m q h e = absurd (omega arith)
+lowest-first (suc n) zero m q h e = rw e
+lowest-first (suc n) (suc k) m q h e =
+    let low : m % 2 ≡ 1 = h 0 (omega arith) in
+    rw low (ap suc (lowest-first n k (m / 2) (omega arith) (λ j r. h (suc j) (omega arith)) e))
+
 -- ---- pieces
 
 pub holds-above : (m c : ℕ) → m < 2 ^ 64 → 64 < c → holds m c ≡ false

@@ -1,5 +1,5 @@
 -- The message call: its numbers in the order in which they are tried, and what an admitted PDU does to state and storage.
-use Prim.Native.Nat.{ℕ, zero, suc, _+_, _*_}
+use Prim.Native.Nat.{ℕ, _+_, _*_}
 use mathlib.Core.Bool.{Bool, not, cond, _&&_, _||_}
 use mathlib.Core.List.{List, [], _∷_, _++_}
 use lib.Dec.{eqb, leb, ltb}
@@ -22,8 +22,8 @@ use Rattle.rules.specs.declared.answers.Where.{Where}
 use Rattle.rules.specs.declared.answers.Where.the-variants.{Nothing, Packet, Storage}
 use Rattle.rules.specs.Admit.{senderRows, admitted, noneDropped}
 use Rattle.rules.specs.First.{Row, row, first}
-use Rattle.rules.specs.Limits.{valid, sameAddress, addressAt, sendersMost}
-use Rattle.rules.specs.State.{senderAt}
+use Rattle.rules.specs.Limits.{valid, sameAddress, sendersMost}
+use Rattle.rules.specs.State.{senderAt, firstWhere}
 
 -- "The storage is exactly 16,384 octets for each sender, in table order."
 abbrev pub area : ℕ
@@ -36,9 +36,8 @@ abbrev pub source : Head → Address
 source h = record { field = h .given .field; node = h .given .node }
 
 -- The first of the first k senders with this address; k where none has it.
-unfoldable pub find : List Sender → Address → ℕ → ℕ
-find l a zero = 0
-find l a (suc k) = cond (ltb (find l a k) k) (find l a k) (cond (sameAddress (addressAt l k) a) k (suc k))
+abbrev pub find : List Sender → Address → ℕ → ℕ
+find l a k = firstWhere (λ s. sameAddress (s .address) a) l k
 
 abbrev pub found : Receiver → Head → ℕ
 found w h = find (w .senders) (source h) (w .count)
@@ -49,9 +48,13 @@ lookAt w a = record { valid = valid w; at = cond (leb (w .count) sendersMost) (f
 
 -- ---- the numbers
 
--- "PDU too short (64), too long (1,460), or length unlike BSIZE"
+-- "PDU too short …, too long …, or length unlike BSIZE"
+abbrev pub lengthOutside : ℕ → ℕ → ℕ → Head → Bool
+lengthOutside least most k h = ltb k least || ltb most k || not (eqb k (h .cut .bsize))
+
+-- "64 … 1,460"
 abbrev pub lengthWrong : ℕ → Head → Bool
-lengthWrong k h = ltb k headerSize || ltb 1460 k || not (eqb k (h .cut .bsize))
+lengthWrong = lengthOutside headerSize 1460
 
 -- "a fixed field of 5.1, PRI, MODE, code, or SEQ (0 or above M) out of range" is 13.
 unfoldable pub headWithin : List ℕ → Head → Bool

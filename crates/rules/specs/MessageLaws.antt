@@ -27,11 +27,11 @@ use Rattle.rules.specs.FirstLaws.{first-here, first-none, first-append, 
 use Rattle.rules.specs.Limits.{sameAddress, addressAt, sendersMost, settingsWithin, sendersWithin, valid}
 use Rattle.rules.specs.LimitsLaws.{valid-count}
 use Rattle.rules.specs.Message.{area, source, find, found, lookAt, lengthWrong, headWithin, packetRows, messageRows, messageNumber, storageAfter, whereBy, withSender, taken, refused, messageAnswer, messageStorage}
-use Rattle.rules.specs.State.{senderAt}
+use Rattle.rules.specs.State.{senderAt, firstWhere}
 
 pub find-more : (l : List Sender) (a : Address) (i at : ℕ) (here : Bool) → at ≡ find l a i → here ≡ sameAddress (addressAt l i) a
     → cond (ltb at i) at (cond here i (i + 1)) ≡ find l a (i + 1)
-unfolding find
+unfolding firstWhere
 find-more l a i at here e f = rw (e, f, add-one i)
 
 -- A state with few enough senders, after the whole pass.
@@ -44,6 +44,13 @@ look-few w a settings all i at few e s v f = rw (le-leb (w .count) sendersMost f
 pub look-valid : (w : Receiver) (a : Address) (l : Look) → l ≡ lookAt w a → l .valid ≡ valid w
 unfolding lookAt
 look-valid w a l e = rw e
+
+-- The pass finds the sender's place in every state that is within its limits, and in no other is it asked for.
+pub look-place : (w : Receiver) (h : Head) (l : Look) → l ≡ lookAt w (source h) → l .valid ≡ true → l .at ≡ found w h
+unfolding lookAt
+look-place w h l e v =
+    let few : w .count ≤ sendersMost = valid-count w (rw e at v) in
+    rw (e, le-leb (w .count) sendersMost few)
 
 -- ---- the numbers before the sender's
 
@@ -93,17 +100,10 @@ module _ (w : Receiver) (storage packet : List ℕ) where
   unfolding messageRows earlyNumber lateNumber
   number-is = first-append (packetRows (valid w) (w .count) (found w (headOf packet)) (length storage) packet (headOf packet)) (senderRows (w .test) (w .n1) (senderAt w (found w (headOf packet))) (headOf packet)) (unfold numbered in refl)
 
-  -- The pass finds the sender's place in every state that is within its limits, and in no other is it asked for.
-  pub place-found : (l : Look) → l ≡ lookAt w (source (headOf packet)) → l .valid ≡ true → l .at ≡ found w (headOf packet)
-  unfolding lookAt
-  place-found l e v =
-      let few : w .count ≤ sendersMost = valid-count w (rw e at v) in
-      rw (e, le-leb (w .count) sendersMost few)
-
   pub early-is : (l : Look) → l ≡ lookAt w (source (headOf packet)) → first (packetRows (l .valid) (w .count) (l .at) (length storage) packet (headOf packet)) ≡ earlyNumber
   unfolding earlyNumber
   early-is l e = ⊎-elim
-      (λ (v : l .valid ≡ true). rw (place-found l e v, look-valid w (source (headOf packet)) l e))
+      (λ (v : l .valid ≡ true). rw (look-place w (headOf packet) l e v, look-valid w (source (headOf packet)) l e))
       (λ (v : l .valid ≡ false).
       first-here 9 (not (l .valid)) _ (rw v) ∙ sym (first-here 9 (not (valid w)) _ (rw (sym (look-valid w (source (headOf packet)) l e) ∙ v))))
       (true-or-false (l .valid))
@@ -154,7 +154,7 @@ module _ (w : Receiver) (storage packet : List ℕ) (h : Head) (a : Address) (l 
         omega (arith, valid-count w v, pass-facts .registered)
 
     place-is : l .at ≡ found w (headOf packet)
-    place-is = place-found w storage packet l look-is (pass-facts .is-valid)
+    place-is = look-place w (headOf packet) l look-is (pass-facts .is-valid)
 
     late-is : lateNumber w storage packet ≡ first (senderRows (w .test) (w .n1) (senderAt w (l .at)) h)
     unfolding lateNumber

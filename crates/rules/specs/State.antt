@@ -1,6 +1,8 @@
 -- The state at its start: what is not there is 0.
-use Prim.Native.Nat.{ℕ}
-use mathlib.Core.Bool.{false}
+use Prim.Native.Nat.{ℕ, zero, suc}
+use mathlib.Core.Bool.{Bool, false, cond}
+use mathlib.Core.List.{List}
+use lib.Dec.{ltb}
 use lib.ListN.{getD, replicate}
 use Rattle.rules.specs.declared.Last.{Last}
 use Rattle.rules.specs.declared.Message.{Message}
@@ -33,6 +35,11 @@ noSender = newSender noAddress
 -- The sender at a place of the table.
 abbrev pub senderAt : Receiver → ℕ → Sender
 senderAt w i = getD (w .senders) i noSender
+
+-- "in table order": the first of the first k senders of which something holds; k where it holds of none.
+unfoldable pub firstWhere : (Sender → Bool) → List Sender → ℕ → ℕ
+firstWhere f l zero = 0
+firstWhere f l (suc k) = cond (ltb (firstWhere f l k) k) (firstWhere f l k) (cond (f (getD l k noSender)) k (suc k))
 
 -- "An empty state, with no senders, is what a refused setup returns (online, N1 1, T 1)"
 abbrev pub emptyReceiver : Receiver

@@ -1,5 +1,5 @@
-// What the calls take and answer. 01's number for each case of an enum is `outcomeNumber` of specs/Admit.antt and `callNumber`
-// of specs/Setup.antt.
+// What the calls take and answer. 01's number for each case of an enum is `outcomeNumber` of specs/Admit.antt, `callNumber` of
+// specs/Setup.antt and `missingNumber` of specs/Question.antt.
 
 use crate::Address;
 use crate::Receiver;
@@ -68,6 +68,21 @@ pub enum Call {
 pub struct Started {
     pub call: Call,
     pub state: Receiver,
+}
+
+// What the alive call answers.
+pub struct Noted {
+    pub call: Call,
+    pub state: Receiver,
+}
+
+// What the question answers.
+pub enum Missing {
+    // with 01's number
+    Refused(u8),
+    NoneOpen,
+    // the sender's place in the table, from 0, and its lowest missing piece, from 1
+    Piece { sender: u8, piece: u8 },
 }
 
 // What the clock call answers: which messages were dropped and which senders died, first sender lowest.

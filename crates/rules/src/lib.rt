@@ -7,7 +7,7 @@ ghost use mathlib.Core.Bool.{cond};
 ghost use Prim.Native.Nat.{_+_, _≤_, _<_};
 ghost use lib.Dec.{ltb};
 ghost use Rattle.rules.specs.Limits.{isAddress, sameAddress, lastWithin, messageWithin, senderWithin, settingsOf, newAmong};
-ghost use Rattle.rules.specs.Message.{lookAt};
+ghost use Rattle.rules.specs.Message.{source as sourceOf, lookAt};
 ghost use Rattle.rules.specs.Setup.{given, addressesWithin};
 ghost use Rattle.rules.specs.State.{emptyReceiver};
 
@@ -17,6 +17,7 @@ pub mod map;
 use crate::map::is_partial;
 use cut::possible::several;
 use header::DataField;
+use header::Head;
 use header::Node;
 use header::codes::code_of;
 use ring::M;
@@ -92,6 +93,16 @@ impl Address {
     {
         (self.field.0 == other.field.0) & (self.node.0 == other.node.0)
     }
+}
+
+// Where a PDU comes from.
+pub fn source(h: Head) -> Address
+    ensures { λ r. ⌜ r ≡ sourceOf h ⌝ }
+{
+    let given = h.given;
+    let field = given.field;
+    let node = given.node;
+    Address { field, node }
 }
 
 impl Last {

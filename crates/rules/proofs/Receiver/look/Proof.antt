@@ -11,8 +11,7 @@ use Rattle.rules.specs.LimitsLaws.{new-ext, seen-more, senders-more, val
 use Rattle.rules.specs.Message.{find, lookAt}
 use Rattle.rules.specs.MessageLaws.{find-more, look-few}
 use Rattle.rules.specs.Setup.{given}
-use borrow.Author.Needs.{needs}
-use borrow.Author.Needs.{needs}
+use Rattle.rules.specs.State.{firstWhere}
 use Rattle.rules.proofs.Receiver.look.Statement.{statement}
 use Rattle.rules.proofs.Receiver.look.Tie as tie
 
@@ -32,7 +31,7 @@ settings-within-requires : tie.Need-settings-within-requires Inv-loop μ-loop
 settings-within-requires c κs = search needs
 
 loop-holds : tie.Need-loop-holds Inv-loop μ-loop
-unfolding sendersWithin find
+unfolding sendersWithin firstWhere
 loop-holds c =
     (search needs, search needs, search needs, (λ j q. absurd (omega arith)), sym (and-true _), refl)
 

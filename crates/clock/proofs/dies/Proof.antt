@@ -1,7 +1,7 @@
 -- The test is that of the definition. Assumes nothing.
 use borrow.Author.Needs.{needs}
-use Rattle.receiver.proofs.clock.dies.Statement.{statement}
-use Rattle.receiver.proofs.clock.dies.Tie as tie
+use Rattle.clock.proofs.dies.Statement.{statement}
+use Rattle.clock.proofs.dies.Tie as tie
 
 cast-result : tie.Need-cast-result
 cast-result c = search needs

@@ -1,7 +1,7 @@
 -- The test is that of the definition. Assumes nothing.
 use borrow.Author.Needs.{needs}
-use Rattle.receiver.proofs.clock.heard_after.Statement.{statement}
-use Rattle.receiver.proofs.clock.heard_after.Tie as tie
+use Rattle.clock.proofs.heard_after.Statement.{statement}
+use Rattle.clock.proofs.heard_after.Tie as tie
 
 returns : tie.Need-returns
 returns c = rw (c .if1 .taken)

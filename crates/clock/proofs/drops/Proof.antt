@@ -1,7 +1,7 @@
 -- The test is that of the definition. Assumes nothing.
 use borrow.Author.Needs.{needs}
-use Rattle.receiver.proofs.clock.drops.Statement.{statement}
-use Rattle.receiver.proofs.clock.drops.Tie as tie
+use Rattle.clock.proofs.drops.Statement.{statement}
+use Rattle.clock.proofs.drops.Tie as tie
 
 since-requires : tie.Need-since-requires
 since-requires c κs = search needs

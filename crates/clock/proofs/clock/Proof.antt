@@ -10,8 +10,8 @@ use Rattle.rules.specs.LimitsLaws.{valid-count}
 use Rattle.rules.specs.MessageLaws.{look-valid}
 use Rattle.rules.specs.declared.Receiver.{Receiver}
 use borrow.Author.Needs.{needs}
-use Rattle.receiver.proofs.clock.clock.Statement.{statement}
-use Rattle.receiver.proofs.clock.clock.Tie as tie
+use Rattle.clock.proofs.clock.Statement.{statement}
+use Rattle.clock.proofs.clock.Tie as tie
 
 abbrev Inv-loop : tie.InvT-loop
 Inv-loop now state₀ t count dropped₀ dead₀ i₀ state dropped dead i =

@@ -1,8 +1,8 @@
 -- Each part is that of the definition. Assumes nothing.
 use Rattle.rules.specs.Clock.{aged}
 use borrow.Author.Needs.{needs}
-use Rattle.receiver.proofs.clock.aged.Statement.{statement}
-use Rattle.receiver.proofs.clock.aged.Tie as tie
+use Rattle.clock.proofs.aged.Statement.{statement}
+use Rattle.clock.proofs.aged.Tie as tie
 
 drops-requires : tie.Need-drops-requires
 drops-requires c κs = search needs

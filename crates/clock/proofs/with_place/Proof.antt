@@ -3,8 +3,8 @@ use mathlib.Core.Path.{sym}
 use native.Mathlib.Nat.{add-zero}
 use Rattle.rules.specs.ClockLaws.{shift-sixteen, place-fits}
 use borrow.Author.Needs.{needs}
-use Rattle.receiver.proofs.clock.with_place.Statement.{statement}
-use Rattle.receiver.proofs.clock.with_place.Tie as tie
+use Rattle.clock.proofs.with_place.Statement.{statement}
+use Rattle.clock.proofs.with_place.Tie as tie
 
 shl-result : tie.Need-shl-result
 shl-result c = search needs

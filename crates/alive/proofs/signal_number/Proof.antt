@@ -1,0 +1,55 @@
+-- Each return is the number of the first row that applies. Assumes nothing.
+use mathlib.Core.Path.{sym, ap, _∙_}
+use mathlib.Core.Bool.{not}
+use borrow.Author.Tests.{le-leb, lt-leb}
+use Rattle.rules.specs.First.{first}
+use borrow.Author.Needs.{needs}
+use Rattle.alive.proofs.signal_number.Statement.{statement}
+use Rattle.alive.proofs.signal_number.Tie as tie
+
+returns : tie.Need-returns
+unfolding first
+returns c = rw (c .if1 .taken)
+
+cast-if2 : tie.Need-cast-if2
+cast-if2 c = search needs
+
+returns-2 : tie.Need-returns-2
+unfolding first
+returns-2 c = simp (c .before .before .if1 .left, c .if2 .taken)
+
+head-within-requires : tie.Need-head-within-requires
+head-within-requires c κs = search needs
+
+returns-3 : tie.Need-returns-3
+unfolding first
+returns-3 c = simp (c .before .before .before .before .if1 .left, c .before .before .if2 .left, ap not (sym (c .before .head-within .ensures)) ∙ c .if3 .taken)
+
+returns-4 : tie.Need-returns-4
+unfolding first
+returns-4 c = simp (c .before .before .before .before .before .if1 .left, c .before .before .before .if2 .left, ap not (sym (c .before .before .head-within .ensures)) ∙ c .before .if3 .left, le-leb _ _ (c .if4 .taken))
+
+signal-within-requires : tie.Need-signal-within-requires
+signal-within-requires c κs = search needs
+
+returns-5 : tie.Need-returns-5
+unfolding first
+returns-5 c = simp (c .before .before .before .before .before .before .before .if1 .left, c .before .before .before .before .before .if2 .left, ap not (sym (c .before .before .before .before .head-within .ensures)) ∙ c .before .before .before .if3 .left, lt-leb _ _ (c .before .before .if4 .left), ap not (sym (c .before .signal-within .ensures)) ∙ c .if5 .taken)
+
+returns-6 : tie.Need-returns-6
+unfolding first
+returns-6 c = simp (c .before .before .before .before .before .before .before .if1 .left, c .before .before .before .before .before .if2 .left, ap not (sym (c .before .before .before .before .head-within .ensures)) ∙ c .before .before .before .if3 .left, lt-leb _ _ (c .before .before .if4 .left), ap not (sym (c .before .signal-within .ensures)) ∙ c .if5 .left)
+
+pub signal-number-spec : {M : Type 1} → statement M
+signal-number-spec =
+    tie.close
+    (tie.spec
+    returns
+    cast-if2
+    returns-2
+    head-within-requires
+    returns-3
+    returns-4
+    signal-within-requires
+    returns-5
+    returns-6)

@@ -1,0 +1,118 @@
+// The alive call: who is heard, and who says that it goes. One function holds the state; it copies one sender's record out, and
+// puts it back.
+//
+// It is total: any state and any octets may come, and each meets its number.
+ghost use mathlib.Core.Path.{_≡_};
+ghost use Rattle.rules.specs.Alive.{aliveHeadWithin, aliveWithin, signalRows, heardAs, heardBy, aliveAnswer};
+ghost use Rattle.rules.specs.First.{first};
+use header::Head;
+use header::alive::Body;
+use header::alive::SIZE;
+use header::alive::group;
+use header::alive::read_body;
+use header::codes::code_of;
+use header::codes::is_mode;
+use header::codes::is_pri;
+use header::is_fixed;
+use header::read_head;
+use rules::Heard;
+use rules::Receiver;
+use rules::Sender;
+use rules::answers::Call;
+use rules::answers::Noted;
+use rules::source;
+
+pub fn alive(mut state: Receiver, packet: &[u8]) -> Noted
+    ensures { λ r. ⌜ r ≡ aliveAnswer state (now (packet .entry)) ⌝ }
+{
+    let h = read_head(packet);
+    let body = read_body(packet);
+    let look = state.look(source(h));
+    let at = look.at;
+    let number = signal_number(look.valid, state.count, at, packet, h, body);
+    if number != 0 {
+        return Noted {
+            call: Call::Refused(number),
+            state,
+        };
+    }
+    let s = state.senders[at as usize];
+    let next = heard_by(s, state.clock, body);
+    state.senders[at as usize] = next;
+    Noted {
+        call: Call::Done,
+        state,
+    }
+}
+
+// The first of 9, 12, 13, 14 and 22 that applies, or 0.
+fn signal_number(valid: bool, count: u8, at: u8, packet: &[u8], h: Head, body: Body) -> u8
+    ensures { λ r. ⌜ r ≡ first (signalRows valid count at (now (packet .entry)) h body) ⌝ }
+{
+    let cut = h.cut;
+    let size = packet.len();
+    if !valid {
+        return 9;
+    }
+    if (size < SIZE) | (1_472 < size) | (size != cut.bsize as usize) {
+        return 12;
+    }
+    if !head_within(packet, h) {
+        return 13;
+    }
+    if count <= at {
+        return 14;
+    }
+    if !signal_within(size, h, body) { 22 } else { 0 }
+}
+
+// The fixed fields, PRI, MODE and the code; SEQ is not looked at.
+fn head_within(packet: &[u8], h: Head) -> bool
+    ensures { λ r. ⌜ r ≡ aliveHeadWithin (now (packet .entry)) h ⌝ }
+{
+    let given = h.given;
+    is_fixed(packet) & is_pri(given.pri) & is_mode(given.mode) & code_of(given.tcd).is_alive()
+}
+
+// ML, CBN, TBN, the group and the alive header.
+fn signal_within(size: usize, h: Head, body: Body) -> bool
+    ensures { λ r. ⌜ r ≡ aliveWithin size h body ⌝ }
+{
+    let cut = h.cut;
+    let given = h.given;
+    (cut.ml as usize == size)
+        & (cut.cbn == 1)
+        & (cut.tbn == 1)
+        & (group(given.da) == 0)
+        & body.within()
+}
+
+// The record of a sender that says that it is alive, or that it goes.
+fn heard_by(s: Sender, clock: u64, body: Body) -> Sender
+    ensures { λ r. ⌜ r ≡ heardBy clock s body ⌝ }
+{
+    if body.mode == 1 {
+        let heard = Heard {
+            stamp: clock,
+            timeout: body.timeout,
+        };
+        return heard_as(s, true, heard);
+    }
+    heard_as(s, false, Heard::NONE)
+}
+
+fn heard_as(s: Sender, alive: bool, heard: Heard) -> Sender
+    ensures { λ r. ⌜ r ≡ heardAs s alive heard ⌝ }
+{
+    let address = s.address;
+    let last = s.last;
+    let message = s.message;
+    Sender {
+        address,
+        last,
+        open: s.open,
+        message,
+        alive,
+        heard,
+    }
+}

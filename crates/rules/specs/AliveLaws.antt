@@ -1,0 +1,64 @@
+-- Laws of the alive call: the answer by what the code has in its locals. Assumes nothing.
+use mathlib.Core.Path.{_≡_, refl, sym, ap, _∙_}
+use mathlib.Core.Logic.{⊎-elim}
+use mathlib.Core.Bool.{true, false, not}
+use mathlib.Core.List.{List}
+use Prim.Native.Nat.{ℕ, _<_}
+use native.Mathlib.Omega.{arith}
+use lib.Dec.{leb}
+use lib.ListN.{length}
+use borrow.Author.Tests.{ne-eqb, leb-false, not-false}
+use Rattle.octets.specs.Split.{true-or-false}
+use Rattle.header.specs.declared.Head.{Head}
+use Rattle.header.specs.declared.alive.Body.{Body}
+use Rattle.header.specs.Alive.{bodyOf}
+use Rattle.header.specs.Head.{headOf}
+use Rattle.rules.specs.declared.Address.{Address}
+use Rattle.rules.specs.declared.Look.{Look}
+use Rattle.rules.specs.declared.Receiver.{Receiver}
+use Rattle.rules.specs.Alive.{aliveLengthWrong, aliveHeadWithin, signalRows, aliveRows, noted, notNoted, aliveAnswer}
+use Rattle.rules.specs.First.{first}
+use Rattle.rules.specs.FirstLaws.{first-here, first-none}
+use Rattle.rules.specs.Limits.{sendersMost, valid}
+use Rattle.rules.specs.LimitsLaws.{valid-count}
+use Rattle.rules.specs.Message.{source, found, lookAt}
+use Rattle.rules.specs.MessageLaws.{look-valid, look-place}
+
+-- The code has the header h, the alive header b, the source a, and what one pass over the table found, l.
+module _ (w : Receiver) (packet : List ℕ) (h : Head) (b : Body) (a : Address) (l : Look) (eh : h ≡ headOf packet) (eb : b ≡ bodyOf packet) (ea : a ≡ source h) (el : l ≡ lookAt w a) where
+  abbrev Rows : ℕ
+  Rows = first (signalRows (l .valid) (w .count) (l .at) packet h b)
+
+  look-is : l ≡ lookAt w (source (headOf packet))
+  look-is = el ∙ ap (lookAt w) (ea ∙ ap source eh)
+
+  number-is : Rows ≡ first (aliveRows w packet)
+  unfolding aliveRows
+  number-is = ⊎-elim
+      (λ (v : l .valid ≡ true). rw (eh, eb, look-place w (headOf packet) l look-is v, look-valid w a l el))
+      (λ (v : l .valid ≡ false).
+      first-here 9 (not (l .valid)) _ (rw v) ∙ sym (first-here 9 (not (valid w)) _ (rw (sym (look-valid w a l el) ∙ v))))
+      (true-or-false (l .valid))
+
+  pub signal-refused : (k : ℕ) → k ≡ Rows → (k ≡ 0 → ⊥) → notNoted w k ≡ aliveAnswer w packet
+  unfolding aliveAnswer
+  signal-refused k e ne = rw (← number-is, ← e, ne-eqb k 0 ne)
+
+  module _ (none : Rows ≡ 0) where
+    is-valid : l .valid ≡ true
+    is-valid = not-false (l .valid) (first-none 9 (not (l .valid)) _ (λ z. omega arith) none .0)
+
+    registered : l .at < w .count
+    registered =
+        let r9 = first-none 9 (not (l .valid)) _ (λ z. omega arith) none in
+        let r12 = first-none 12 (aliveLengthWrong (length packet) h) _ (λ z. omega arith) (r9 .1) in
+        let r13 = first-none 13 (not (aliveHeadWithin packet h)) _ (λ z. omega arith) (r12 .1) in
+        leb-false (w .count) (l .at) (first-none 14 (leb (w .count) (l .at)) _ (λ z. omega arith) (r13 .1) .0)
+
+    -- The place is one of the table's 16.
+    pub signal-place : l .at < sendersMost
+    signal-place = omega (arith, registered, valid-count w (sym (look-valid w a l el) ∙ is-valid))
+
+    pub signal-noted : noted w (l .at) b ≡ aliveAnswer w packet
+    unfolding aliveAnswer
+    signal-noted = rw (← number-is, none, eb, look-place w (headOf packet) l look-is is-valid)
