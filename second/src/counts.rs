@@ -2,9 +2,10 @@
 
 use std::collections::BTreeMap;
 
-/// Reads printed lines and gives "KIND NUMBER COUNT" lines, sorted. The kinds
-/// are the lines' own letters (A, C, E, P, S) and V for the verdict of a P
-/// line; E, which bears no number, is counted under 0.
+/// Reads printed lines, of a run or of the edges, and gives "KIND NUMBER COUNT"
+/// lines, sorted. The kinds are the lines' own letters (A, C, E, P, Q, S) and V
+/// for the verdict of a P line; E, which bears no number, is counted under 0.
+/// Titles and states (#, W, w) answer nothing and are passed over.
 pub fn counts(lines: &str) -> Result<String, String> {
     let mut counts: BTreeMap<(char, u64), u64> = BTreeMap::new();
     for (at, line) in lines.lines().enumerate() {
@@ -20,15 +21,24 @@ pub fn counts(lines: &str) -> Result<String, String> {
 }
 
 /// What one line counts for; None where it is not one of the program's lines.
+/// A P line has 4 numbers in a run, 9 among the edges.
 fn kinds_of(line: &str) -> Option<Vec<(char, u64)>> {
+    if line.starts_with("# ") {
+        return Some(Vec::new());
+    }
     let mut words = line.split(' ');
     let kind = words.next()?;
     let numbers: Vec<u64> = words.map(|word| word.parse().ok()).collect::<Option<_>>()?;
     match (kind, &numbers[..]) {
         ("S", [answer]) => Some(vec![('S', *answer)]),
-        ("P", [answer, verdict, _, _]) => Some(vec![('P', *answer), ('V', *verdict)]),
+        ("P", [answer, verdict, _, _] | [answer, verdict, _, _, _, _, _, _, _]) => {
+            Some(vec![('P', *answer), ('V', *verdict)])
+        }
         ("C", [answer, _, _]) => Some(vec![('C', *answer)]),
         ("A", [answer]) => Some(vec![('A', *answer)]),
+        ("Q", [answer, _, _, _]) => Some(vec![('Q', *answer)]),
+        ("W", state) if state.len() == 5 => Some(Vec::new()),
+        ("w", sender) if sender.len() == 17 => Some(Vec::new()),
         ("E", []) => Some(vec![('E', 0)]),
         _ => None,
     }
@@ -46,8 +56,18 @@ mod tests {
     }
 
     #[test]
+    fn counts_the_lines_of_the_edges() {
+        let lines = "# 1.1 A title: P 1\nP 1 4 0 10 2 0 0 7 9\nP 9 0 0 0 0 0 0 7 7\nQ 9 0 0 0\n\
+                     Q 0 1 0 2\nW 0 16 15000 0 1\nw 0 1 7 0 0 0 0 0 0 0 0 0 0 0 0 0 0\n";
+        let expected = "P 1 1\nP 9 1\nQ 0 1\nQ 9 1\nV 0 1\nV 4 1\n";
+        assert_eq!(counts(lines).unwrap(), expected);
+    }
+
+    #[test]
     fn tells_the_number_of_a_wrong_line() {
-        for wrong in ["P 1 1 0", "Q 1", "S", "S x", "", "C 0 0 0 0", "E 1", "S  0"] {
+        let runs = ["P 1 1 0", "Q 1", "S", "S x", "", "C 0 0 0 0", "E 1", "S  0"];
+        let edges = ["P 1 1 0 0 0 0 0 7", "#", "W 0 16 15000 0", "w 0 1 7", "W"];
+        for wrong in [&runs[..], &edges].concat() {
             let lines = format!("S 0\n{wrong}\n");
             assert!(
                 counts(&lines).unwrap_err().starts_with("line 2:"),

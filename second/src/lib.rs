@@ -9,6 +9,7 @@ pub mod answers;
 pub mod clock;
 pub mod counts;
 pub mod cut;
+pub mod edges;
 pub mod fields;
 pub mod header;
 pub mod numbers;

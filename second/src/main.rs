@@ -3,12 +3,13 @@
 use std::io::{self, Read, Write};
 use std::process::ExitCode;
 
-use second::{counts, fields, random, text};
+use second::{counts, edges, fields, random, text};
 
 const USAGE: &str = "usage: second run < capture
        second capture < text > capture
        second random SEED COUNT > capture
        second random-cut SEED > capture
+       second edges
        second tally < lines
 ";
 
@@ -28,6 +29,7 @@ fn main() -> ExitCode {
             Ok(seed) => output(&random::cut_capture(seed)),
             Err(_) => return usage(),
         },
+        ["edges"] => output(edges::lines().as_bytes()),
         ["tally"] => input_text()
             .and_then(|lines| counts::counts(&lines))
             .and_then(|counts| output(counts.as_bytes())),

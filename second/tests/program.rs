@@ -112,9 +112,10 @@ fn a_wrong_line_is_told_on_standard_error() {
 
 #[test]
 fn unknown_words_give_the_usage() {
-    let wrong: [&[&str]; 6] = [
+    let wrong: [&[&str]; 7] = [
         &[],
-        &["edges"],
+        &["edge"],
+        &["edges", "now"],
         &["run", "now"],
         &["random", "1"],
         &["random", "x", "5"],
@@ -126,6 +127,40 @@ fn unknown_words_give_the_usage() {
         assert!(output.stdout.is_empty());
         assert!(output.stderr.starts_with(b"usage: second"), "{words:?}");
     }
+}
+
+/// How often this answer of this kind is in the tally.
+fn count_in(tally: &str, kind: &str) -> u64 {
+    tally
+        .lines()
+        .find_map(|line| line.strip_prefix(kind)?.strip_prefix(' ')?.parse().ok())
+        .unwrap_or(0)
+}
+
+/// 01's numbers, each where it can be given: 23 is the cutter's alone.
+#[test]
+fn edges_then_tally_reach_every_number() {
+    let edges = second(&["edges"], b"");
+    assert_eq!(edges.status.code(), Some(0));
+    let tally = second(&["tally"], &edges.stdout);
+    assert_eq!(tally.status.code(), Some(0));
+    let kinds = [
+        ("S", &[0, 10][..]),
+        ("P", &[0, 1, 9, 11, 12, 13, 14, 15, 16, 17, 18, 19, 20]),
+        ("V", &[0, 1, 2, 3, 4, 5]),
+        ("A", &[0, 9, 12, 13, 14, 22]),
+        ("C", &[0, 9, 21]),
+        ("Q", &[0, 9]),
+    ];
+    let mut reached = 0;
+    for (kind, numbers) in kinds {
+        for number in numbers {
+            let kind = format!("{kind} {number}");
+            assert!(count_in(lines(&tally), &kind) > 0, "{kind}");
+            reached += 1;
+        }
+    }
+    assert_eq!(lines(&tally).lines().count(), reached);
 }
 
 #[test]

@@ -1,7 +1,7 @@
 -- Laws of the alive call: the answer by what the code has in its locals. Assumes nothing.
-use mathlib.Core.Path.{_≡_, refl, sym, ap, _∙_}
+use mathlib.Core.Path.{_≡_, sym, ap, _∙_}
 use mathlib.Core.Logic.{⊎-elim}
-use mathlib.Core.Bool.{true, false, not}
+use mathlib.Core.Bool.{Bool, true, false, not}
 use mathlib.Core.List.{List}
 use Prim.Native.Nat.{ℕ, _<_}
 use native.Mathlib.Omega.{arith}
@@ -24,6 +24,19 @@ use Rattle.rules.specs.LimitsLaws.{valid-count}
 use Rattle.rules.specs.Message.{source, found, lookAt}
 use Rattle.rules.specs.MessageLaws.{look-valid, look-place}
 
+-- Where no number applies the state is valid and the sender registered.
+pub signal-facts : (ok : Bool) (count i : ℕ) (packet : List ℕ) (h : Head) (b : Body) → first (signalRows ok count i packet h b) ≡ 0 → (ok ≡ true) × (i < count)
+signal-facts ok count i packet h b e =
+    let r9 = first-none 9 (not ok) _ (λ z. omega arith) e in
+    let r12 = first-none 12 (aliveLengthWrong (length packet) h) _ (λ z. omega arith) (r9 .1) in
+    let r13 = first-none 13 (not (aliveHeadWithin packet h)) _ (λ z. omega arith) (r12 .1) in
+    let r14 = first-none 14 (leb count i) _ (λ z. omega arith) (r13 .1) in
+    (not-false ok (r9 .0), leb-false count i (r14 .0))
+
+pub alive-facts : (w : Receiver) (packet : List ℕ) → first (aliveRows w packet) ≡ 0 → (valid w ≡ true) × (found w (headOf packet) < w .count)
+unfolding aliveRows
+alive-facts w packet = signal-facts (valid w) (w .count) (found w (headOf packet)) packet (headOf packet) (bodyOf packet)
+
 -- The code has the header h, the alive header b, the source a, and what one pass over the table found, l.
 module _ (w : Receiver) (packet : List ℕ) (h : Head) (b : Body) (a : Address) (l : Look) (eh : h ≡ headOf packet) (eb : b ≡ bodyOf packet) (ea : a ≡ source h) (el : l ≡ lookAt w a) where
   abbrev Rows : ℕ
@@ -45,20 +58,13 @@ module _ (w : Receiver) (packet : List ℕ) (h : Head) (b : Body) (a : Address) 
   signal-refused k e ne = rw (← number-is, ← e, ne-eqb k 0 ne)
 
   module _ (none : Rows ≡ 0) where
-    is-valid : l .valid ≡ true
-    is-valid = not-false (l .valid) (first-none 9 (not (l .valid)) _ (λ z. omega arith) none .0)
-
-    registered : l .at < w .count
-    registered =
-        let r9 = first-none 9 (not (l .valid)) _ (λ z. omega arith) none in
-        let r12 = first-none 12 (aliveLengthWrong (length packet) h) _ (λ z. omega arith) (r9 .1) in
-        let r13 = first-none 13 (not (aliveHeadWithin packet h)) _ (λ z. omega arith) (r12 .1) in
-        leb-false (w .count) (l .at) (first-none 14 (leb (w .count) (l .at)) _ (λ z. omega arith) (r13 .1) .0)
+    facts : (l .valid ≡ true) × (l .at < w .count)
+    facts = signal-facts (l .valid) (w .count) (l .at) packet h b none
 
     -- The place is one of the table's 16.
     pub signal-place : l .at < sendersMost
-    signal-place = omega (arith, registered, valid-count w (sym (look-valid w a l el) ∙ is-valid))
+    signal-place = omega (arith, facts .1, valid-count w (sym (look-valid w a l el) ∙ facts .0))
 
     pub signal-noted : noted w (l .at) b ≡ aliveAnswer w packet
     unfolding aliveAnswer
-    signal-noted = rw (← number-is, none, eb, look-place w (headOf packet) l look-is is-valid)
+    signal-noted = rw (← number-is, none, eb, look-place w (headOf packet) l look-is (facts .0))

@@ -19,6 +19,7 @@ use Rattle.rules.specs.First.{row, first}
 use Rattle.rules.specs.FirstLaws.{first-here, first-later}
 use Rattle.rules.specs.Limits.{valid, clockMost}
 use Rattle.rules.specs.State.{noSender}
+use Rattle.rules.specs.WithinLaws.{written-place}
 
 pub length-aged : (t now : ℕ) (l : List Sender) (k : ℕ) → length (agedSenders t now l k) ≡ length l
 unfolding agedSenders
@@ -31,6 +32,12 @@ unfolding agedSenders
 aged-later t now l zero j h = refl
 aged-later t now l (suc k) j h =
     getD-set-other (agedSenders t now l k) k j (aged t now (getD l k noSender)) noSender (λ e. omega arith) ∙ aged-later t now l k j (omega arith)
+
+-- A sender whose turn has come is aged.
+pub aged-done : (t now : ℕ) (l : List Sender) (k j : ℕ) → k ≤ length l → j < k
+    → getD (agedSenders t now l k) j noSender ≡ aged t now (getD l j noSender)
+unfolding agedSenders
+aged-done t now l k j room h = written-place (agedSenders t now l) (λ i. aged t now (getD l i noSender)) (λ i. refl) k j h (omega arith)
 
 pub aged-more : (t now : ℕ) (l m : List Sender) (k : ℕ) (s : Sender) → m ≡ agedSenders t now l k → s ≡ aged t now (getD m k noSender)
     → set m k s ≡ agedSenders t now l (k + 1)

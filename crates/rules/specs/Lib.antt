@@ -18,3 +18,12 @@ pub mod Alive
 pub mod AliveLaws
 pub mod Question
 pub mod QuestionLaws
+pub mod Exactly
+pub mod WithinLaws
+pub mod AdmitValid
+pub mod ValidLaws
+pub mod Changes
+pub mod Alike
+pub mod SeenLaws
+pub mod AlikeLaws
+pub mod ZeroedLaws

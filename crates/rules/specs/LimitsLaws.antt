@@ -1,7 +1,7 @@
 -- Laws of the limits: what one pass over the table needs, and what a valid state says of each sender. Assumes nothing.
 use mathlib.Core.Path.{_≡_, refl, ap₂, _∙_}
 use mathlib.Core.Logic.{_≢_, ⊎-elim}
-use mathlib.Core.Bool.{Bool, true, false, not, _&&_, _||_, and-assoc, and-false}
+use mathlib.Core.Bool.{Bool, true, false, not, _&&_, and-assoc, and-false}
 use mathlib.Core.List.{List}
 use Prim.Native.Nat.{ℕ, zero, suc, _+_, _≤_, _<_}
 use native.Mathlib.Numerals.{add-one}
@@ -9,13 +9,13 @@ use native.Mathlib.Omega.{arith}
 use lib.ListN.{length, getD, set}
 use lib.Seq.{getD-set-same, getD-set-other}
 use borrow.Author.Tests.{lt-leb}
-use Rattle.octets.specs.Split.{lt-or-le, eq-or-ne, never-both, and-left, and-right}
+use Rattle.octets.specs.Split.{lt-or-le, eq-or-ne, never-both}
 use Rattle.rules.specs.declared.Address.{Address}
 use Rattle.rules.specs.declared.Sender.{Sender}
 use Rattle.rules.specs.declared.Receiver.{Receiver}
-use Rattle.rules.specs.Limits.{isAddress, sameAddress, lastWithin, messageWithin, senderWithin, newAmong, addressAt, sendersWithin, sendersMost, settingsOf, settingsWithin, valid}
+use Rattle.rules.specs.Limits.{sameAddress, senderWithin, newAmong, addressAt, sendersWithin, sendersMost, settingsOf, valid}
 use Rattle.rules.specs.Setup.{given}
-use Rattle.rules.specs.State.{noAddress, noSender, senderAt}
+use Rattle.rules.specs.State.{noAddress, noSender}
 
 pub new-ext : (f g : ℕ → Address) (k : ℕ) (a : Address) → ((j : ℕ) → j < k → f j ≡ g j) → newAmong f k a ≡ newAmong g k a
 unfolding newAmong
@@ -49,23 +49,3 @@ valid-count w e = ⊎-elim
     (λ (h : sendersMost < w .count). absurd (never-both e (valid-few w h)))
     (λ (h : w .count ≤ sendersMost). h)
     (lt-or-le sendersMost (w .count))
-
--- ---- what a valid state says of each sender
-
-sender-within : (clock : ℕ) (l : List Sender) (k j : ℕ) → j < k → sendersWithin clock l k ≡ true → senderWithin clock (getD l j noSender) ≡ true
-unfolding sendersWithin
-sender-within clock l zero j q e = absurd (omega arith)
-sender-within clock l (suc k) j q e = ⊎-elim
-    (λ (x : j ≡ k). rw x (and-left (senderWithin clock (getD l k noSender)) _ (and-right (sendersWithin clock l k) _ e)))
-    (λ (x : j ≢ k). sender-within clock l k j (omega arith) (and-left (sendersWithin clock l k) _ e))
-    (eq-or-ne j k)
-
-pub valid-sender : (w : Receiver) (i : ℕ) → valid w ≡ true → i < w .count → senderWithin (w .clock) (senderAt w i) ≡ true
-unfolding valid
-valid-sender w i e q = sender-within (w .clock) (w .senders) (w .count) i q (and-right (settingsWithin w) _ e)
-
-pub open-within : (clock : ℕ) (s : Sender) → senderWithin clock s ≡ true → s .«open» ≡ true → messageWithin clock (s .message) ≡ true
-unfolding senderWithin
-open-within clock s e o =
-    let x = and-left (isAddress (s .address) && lastWithin (s .last) && (not (s .«open») || messageWithin clock (s .message))) _ e in
-    rw o at (and-right (isAddress (s .address) && lastWithin (s .last)) _ x)

@@ -23,7 +23,7 @@ use Rattle.rules.specs.declared.answers.Where.{Where}
 use Rattle.rules.specs.Admit.{senderRows, admission, admitted, refusedNumber}
 use Rattle.rules.specs.AdmitLaws.{Admitted, admitted-facts, admission-yes, admission-number}
 use Rattle.rules.specs.First.{first}
-use Rattle.rules.specs.FirstLaws.{first-here, first-none, first-append, numbered}
+use Rattle.rules.specs.FirstLaws.{first-here, first-none, first-append, first-neither, numbered}
 use Rattle.rules.specs.Limits.{sameAddress, addressAt, sendersMost, settingsWithin, sendersWithin, valid}
 use Rattle.rules.specs.LimitsLaws.{valid-count}
 use Rattle.rules.specs.Message.{area, source, find, found, lookAt, lengthWrong, headWithin, packetRows, messageRows, messageNumber, storageAfter, whereBy, withSender, taken, refused, messageAnswer, messageStorage}
@@ -63,7 +63,7 @@ pub record Passed (ok : Bool) (count i room : ℕ) (packet : List ℕ) (h : Head
   pub head-within : headWithin packet h ≡ true
   pub registered : i < count
 
-or-false : (a b : Bool) → a || b ≡ false → (a ≡ false) × (b ≡ false)
+pub or-false : (a b : Bool) → a || b ≡ false → (a ≡ false) × (b ≡ false)
 or-false true b e = absurd (never-both refl e)
 or-false false b e = (refl, e)
 
@@ -84,6 +84,16 @@ passed-facts ok count i room packet h e =
       head-within = not-false (headWithin packet h) (r13 .0);
       registered = leb-false count i (r14 .0);
     }
+
+-- What is known of a PDU to which no number applies.
+pub taken-facts : (w : Receiver) (room : ℕ) (packet : List ℕ) → messageNumber w room packet ≡ 0
+    → Passed (valid w) (w .count) (found w (headOf packet)) room packet (headOf packet) × Admitted (w .n1) (senderAt w (found w (headOf packet))) (headOf packet)
+unfolding messageRows
+taken-facts w room packet e =
+    let h = headOf packet in
+    let i = found w h in
+    let none = first-neither (packetRows (valid w) (w .count) i room packet h) (senderRows (w .test) (w .n1) (senderAt w i) h) (unfold numbered in refl) e in
+    (passed-facts (valid w) (w .count) i room packet h (none .0), admitted-facts (w .test) (w .n1) (senderAt w i) h (none .1))
 
 -- ---- the call, by what one pass over the table and the two judges found
 

@@ -1,30 +1,26 @@
 -- Laws of the question: what is found by walking over senders and pieces to the first missing one. Assumes nothing.
 use mathlib.Core.Path.{_≡_, refl, sym, ap, _∙_}
 use mathlib.Core.Logic.{_≢_, ⊎-elim}
-use mathlib.Core.Bool.{Bool, true, false, not, cond, _&&_}
+use mathlib.Core.Bool.{Bool, true, false, cond}
 use mathlib.Core.List.{List}
 use Prim.Native.Nat.{ℕ, zero, suc, _+_, _-_, _≤_, _<_}
 use native.Mathlib.Omega.{arith}
-use lib.Dec.{eqb, ltb, leb}
+use lib.Dec.{ltb}
 use lib.ListN.{getD}
-use borrow.Author.Tests.{lt-ltb, le-ltb, ltb-true, eqb-true, eqb-false}
-use Rattle.octets.specs.Split.{eq-or-ne, true-or-false, never-both, and-left, and-right, either}
-use Rattle.ring.specs.Ring.{isNumber}
-use Rattle.header.specs.Codes.{isUser}
-use Rattle.cut.specs.Possible.{severalPossible}
+use borrow.Author.Tests.{lt-ltb, le-ltb, ltb-true, eqb-true}
+use Rattle.octets.specs.Split.{eq-or-ne, true-or-false}
 use Rattle.cut.specs.PossibleLaws.{several-facts, several-most}
 use Rattle.rules.specs.declared.Message.{Message}
 use Rattle.rules.specs.declared.Sender.{Sender}
 use Rattle.rules.specs.declared.Receiver.{Receiver}
-use Rattle.rules.specs.declared.answers.Missing.{Missing}
 use Rattle.rules.specs.declared.answers.Missing.the-variants.{Refused, NoneOpen, Piece}
 use Rattle.rules.specs.First.{first}
-use Rattle.rules.specs.Limits.{valid, senderWithin, messageWithin}
-use Rattle.rules.specs.LimitsLaws.{open-within, valid-sender}
-use Rattle.rules.specs.Map.{bit, holds, isPartial, fullMap, lowest, lowestMissing}
-use Rattle.rules.specs.MapLaws.{bit-most, full-only, lowest-first, holds-not}
-use Rattle.rules.specs.Question.{firstOpen, missingOf, questionAnswer}
+use Rattle.rules.specs.Limits.{valid}
+use Rattle.rules.specs.Map.{bit, holds, lowest}
+use Rattle.rules.specs.MapLaws.{full-only, lowest-first, holds-not}
+use Rattle.rules.specs.Question.{firstOpen, questionAnswer}
 use Rattle.rules.specs.State.{noSender, senderAt, firstWhere}
+use Rattle.rules.specs.WithinLaws.{MessageWithin, message-facts, SenderWithin, valid-sender}
 
 -- ---- the first of the table of which something holds
 
@@ -49,6 +45,18 @@ first-of f l (suc k) i q h e = ⊎-elim
     rw (first-of f l k i less h e, lt-ltb i k less))
     (eq-or-ne i k)
 
+-- The first sender of which something holds is one of which it holds.
+pub first-holds : (f : Sender → Bool) (l : List Sender) (k : ℕ) → firstWhere f l k < k → f (getD l (firstWhere f l k) noSender) ≡ true
+unfolding firstWhere
+first-holds f l zero h = absurd (omega arith)
+first-holds f l (suc k) h = by (firstWhere f l k) (ltb (firstWhere f l k) k) refl (f (getD l k noSender)) refl (first-holds f l k) h
+  where
+    by : (i : ℕ) (b : Bool) → ltb i k ≡ b → (c : Bool) → f (getD l k noSender) ≡ c → (i < k → f (getD l i noSender) ≡ true)
+        → cond b i (cond c k (suc k)) < suc k → f (getD l (cond b i (cond c k (suc k))) noSender) ≡ true
+    by i true e c g earlier q = earlier (ltb-true i k e)
+    by i false e true g earlier q = g
+    by i false e false g earlier q = absurd (omega arith)
+
 -- ---- the pieces of one sender
 
 -- How many pieces there are to look for.
@@ -65,30 +73,16 @@ bit-of s k h j q =
     eqb-true (bit j (s .message .map)) 1 (rw same at (h j q))
 
 -- Of an open message of a valid state not every piece is held, and no more than 64 are looked for.
-module _ (clock : ℕ) (s : Sender) (e : senderWithin clock s ≡ true) (o : s .«open» ≡ true) where
-  parts : (severalPossible (s .message .n) (s .message .tbn) (s .message .u) ≡ true) × (isPartial (s .message .map) (s .message .tbn) ≡ true)
-  unfolding messageWithin
-  parts =
-      let m = s .message in
-      let x = and-left (isNumber (m .number .0) && isUser (m .tcd) && severalPossible (m .n) (m .tbn) (m .u) && isPartial (m .map) (m .tbn)) _ (open-within clock s e o) in
-      let y = and-left (isNumber (m .number .0) && isUser (m .tcd) && severalPossible (m .n) (m .tbn) (m .u)) _ x in
-      (and-right (isNumber (m .number .0) && isUser (m .tcd)) _ y, and-right (isNumber (m .number .0) && isUser (m .tcd) && severalPossible (m .n) (m .tbn) (m .u)) _ x)
+module _ (clock : ℕ) (m : Message) (f : MessageWithin clock m) where
+  few-pieces : m .tbn ≤ 64
+  few-pieces = several-most (m .n) (m .tbn) (m .u) (several-facts (m .n) (m .tbn) (m .u) (f .cut))
 
-  few-pieces : s .message .tbn ≤ 64
-  few-pieces = let m = s .message in several-most (m .n) (m .tbn) (m .u) (several-facts (m .n) (m .tbn) (m .u) (parts .0))
+  not-all : ((k : ℕ) → k < m .tbn → bit k (m .map) ≡ 1) → ⊥
+  not-all h = omega (arith, f .not-full, full-only (m .tbn) (m .map) (omega (arith, f .not-full)) h)
 
-  below-full : s .message .map < fullMap (s .message .tbn)
-  below-full = let m = s .message in ltb-true (m .map) (fullMap (m .tbn)) (and-right (ltb 0 (m .map)) _ (parts .1))
-
-  not-all : Held s (s .message .tbn) → ⊥
-  not-all h =
-      let m = s .message in
-      let full = full-only (m .tbn) (m .map) (omega (arith, below-full)) (bit-of s (m .tbn) h) in
-      omega (arith, below-full, full)
-
-pub all-held : (clock : ℕ) (s : Sender) → senderWithin clock s ≡ true → Held s (piecesOf s) → s .«open» ≡ false
-all-held clock s e h = ⊎-elim
-    (λ (o : s .«open» ≡ true). absurd (not-all clock s e o (rw o at h)))
+pub all-held : (clock : ℕ) (s : Sender) → SenderWithin clock s → Held s (piecesOf s) → s .«open» ≡ false
+all-held clock s f h = ⊎-elim
+    (λ (o : s .«open» ≡ true). absurd (not-all clock (s .message) (message-facts clock (s .message) (f .message o)) (bit-of s (s .message .tbn) (rw o at h))))
     (λ (o : s .«open» ≡ false). o)
     (true-or-false (s .«open»))
 
@@ -116,7 +110,8 @@ module _ (w : Receiver) (ok : valid w ≡ true) where
       let s = senderAt w i in
       let o : s .«open» ≡ true = some-piece s k p in
       let here : firstOpen w ≡ i = first-of (λ s. s .«open») (w .senders) (w .count) i q h o in
-      let few : s .message .tbn ≤ 64 = few-pieces (w .clock) s (valid-sender w i ok q) o in
+      let few : s .message .tbn ≤ 64
+      = few-pieces (w .clock) (s .message) (message-facts (w .clock) (s .message) (valid-sender w ok i q .message o)) in
       let within : k < s .message .tbn = rw o at p in
       let same : k + 1 - 1 ≡ k = omega arith in
       let low : lowest 64 (s .message .map) ≡ k

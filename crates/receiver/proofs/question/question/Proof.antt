@@ -5,9 +5,9 @@ use mathlib.Core.Bool.{true, false}
 use native.Mathlib.Omega.{arith}
 use borrow.Author.Count.{below-more}
 use borrow.Author.Tests.{not-true, not-false}
-use Rattle.octets.specs.Split.{mapped-length}
 use Rattle.rules.specs.declared.answers.Missing.the-variants.{NoneOpen}
-use Rattle.rules.specs.LimitsLaws.{valid-count, valid-sender}
+use Rattle.rules.specs.LimitsLaws.{valid-count}
+use Rattle.rules.specs.WithinLaws.{valid-sender}
 use Rattle.rules.specs.Map.{holds}
 use Rattle.rules.specs.MessageLaws.{look-valid}
 use Rattle.rules.specs.QuestionLaws.{all-held, question-none, question-piece, question-nine}
@@ -83,7 +83,7 @@ senders-again c =
     let i = c .before .before .before .before .before .senders .i in
     let ok = sym (look-valid _ _ _ (c .before .before .before .before .before .before .before .before .look .ensures)) ∙ not-false _ (c .before .before .before .before .before .before .if1 .left) in
     let held : Held (senderAt w i) (piecesOf (senderAt w i)) = λ j q. c .before .loop .inv .1 j (omega (arith, c .before .before .pieces-of .ensures)) in
-    let closed = all-held (w .clock) (senderAt w i) (valid-sender w i ok (c .before .before .before .before .senders-test .taken)) held in
+    let closed = all-held (w .clock) (senderAt w i) (valid-sender w ok i (c .before .before .before .before .senders-test .taken)) held in
     (omega arith, c .before .before .before .before .before .senders .inv .1, below-more _ _ (c .before .before .before .before .before .senders .inv .2) closed, c .before .loop .inv .2 ∙ c .before .before .before .before .before .senders .inv .3)
 
 returns-2 : tie.Need-returns-2 Inv-loop μ-loop Inv-senders μ-senders

@@ -1,0 +1,239 @@
+//! What is at hand while the edges are run, and the calls of `docs/EDGES.md`.
+
+use super::pdu::{self, Laid};
+use crate::alive::alive;
+use crate::clock::clock;
+use crate::receiver::{message, part, question, Answer};
+use crate::state::{setup, Receiver, Sender, Setup, AREA, SENDERS_MOST};
+
+/// 01: "A past is a setup, storage of its right length with any octets in it,
+/// and then calls, each given the state and storage that the one before left."
+/// The state may be damaged between two calls.
+pub struct Past {
+    pub receiver: Receiver,
+    storage: Vec<u8>,
+    lines: String,
+}
+
+/// "the whole storage is filled with octet 170".
+const FILL: u8 = 170;
+
+impl Past {
+    pub fn new() -> Past {
+        let mut past = Past {
+            receiver: Receiver::empty(),
+            storage: vec![FILL; SENDERS_MOST * AREA],
+            lines: String::new(),
+        };
+        past.fresh();
+        past
+    }
+
+    pub fn lines(self) -> String {
+        self.lines
+    }
+
+    fn print(&mut self, line: &str) {
+        self.lines += line;
+        self.lines.push('\n');
+    }
+
+    /// "Every section begins with fresh(), after its # line."
+    pub fn section(&mut self, title: &str) {
+        self.print(&format!("# {title}"));
+        self.fresh();
+    }
+
+    /// Makes calls, "printing nothing".
+    pub fn quietly(&mut self, calls: fn(&mut Past)) {
+        let printed = self.lines.len();
+        calls(self);
+        self.lines.truncate(printed);
+    }
+
+    /// "mode 0, N1 16, T 15000, senders 1:7 and 2:9".
+    pub fn fresh(&mut self) {
+        self.quietly(|past| past.setup([0, 16, 15_000, 2, 2, 9]));
+    }
+
+    /// "setup(mode, n1, t, count, field, node)"; the state is what setup
+    /// returns, "also on a refusal".
+    pub fn setup(&mut self, values: [u32; 6]) {
+        let [mode, n1, t, count, field, node] = values;
+        let (number, receiver) = setup(&Setup {
+            mode: mode as u8,
+            n1: n1 as u16,
+            t,
+            senders: senders(count, (field as u8, node as u16)),
+        });
+        self.storage.fill(FILL);
+        self.receiver = receiver;
+        self.print(&format!("S {number}"));
+    }
+
+    pub fn piece(&mut self, values: [u32; 8]) {
+        self.message(&pdu::piece(values));
+    }
+
+    pub fn number(&mut self, version: u32, seq: u32) {
+        self.message(&pdu::number(version, seq));
+    }
+
+    pub fn laid(&mut self, laid: &[Laid]) {
+        self.message(&pdu::with(pdu::number(5, 100), laid));
+    }
+
+    pub fn raw(&mut self, ml: u32, bsize: u16, cbn: u8, tbn: u8, lent: usize) {
+        self.message(&pdu::raw(ml, bsize, cbn, tbn, lent));
+    }
+
+    pub fn lend(&mut self, storage: usize, octets: usize) {
+        self.message_lent(storage, &pdu::number(5, 100)[..octets]);
+    }
+
+    /// Lends the storage of every sender.
+    fn message(&mut self, packet: &[u8]) {
+        self.message_lent(AREA * self.receiver.senders.len(), packet);
+    }
+
+    /// "P number verdict held length skipped dropped-version dropped-number
+    /// part-sum storage-sum".
+    pub fn message_lent(&mut self, lent: usize, packet: &[u8]) {
+        let storage = &mut self.storage[..lent];
+        let answer = message(&mut self.receiver, storage, packet);
+        let delivered = part(answer.message, packet, storage);
+        let numbers = [
+            answer.number.into(),
+            answer.verdict.number().into(),
+            answer.held,
+            delivered.len() as u32,
+            answer.skipped,
+            answer.dropped_version,
+            answer.dropped_number,
+            sum(delivered),
+            sum(storage),
+        ];
+        self.print(&format!("P {}", joined(&numbers)));
+    }
+
+    pub fn alive(&mut self, field: u32, node: u32, al_mode: u32, al_tm_out: u32) {
+        self.alive_call(&pdu::alive(field, node, al_mode, al_tm_out));
+    }
+
+    pub fn alive_laid(&mut self, laid: &[Laid]) {
+        self.alive_call(&pdu::with(pdu::alive(1, 7, 1, 60), laid));
+    }
+
+    pub fn alive_sized(&mut self, ml: u32, bsize: u16, lent: usize) {
+        self.alive_call(&pdu::alive_sized(ml, bsize, lent));
+    }
+
+    fn alive_call(&mut self, packet: &[u8]) {
+        let number = alive(&mut self.receiver, packet);
+        self.print(&format!("A {number}"));
+    }
+
+    pub fn clock(&mut self, ms: u64) {
+        let answer = clock(&mut self.receiver, ms);
+        self.print(&format!(
+            "C {} {} {}",
+            answer.number, answer.dropped, answer.dead
+        ));
+    }
+
+    /// "Q number open place piece": "otherwise 0 0 0, also on a refusal".
+    pub fn ask(&mut self) {
+        let line = match question(&self.receiver) {
+            Answer::Refused(number) => format!("Q {number} 0 0 0"),
+            Answer::NoneOpen => "Q 0 0 0 0".into(),
+            Answer::Missing { sender, piece } => format!("Q 0 1 {sender} {piece}"),
+        };
+        self.print(&line);
+    }
+
+    /// "W test n1 t clock count", and a w line for each sender.
+    pub fn show(&mut self) {
+        let state = &self.receiver;
+        let count = state.senders.len();
+        let mut lines = vec![format!(
+            "W {} {} {} {} {count}",
+            u8::from(state.test),
+            state.n1,
+            state.t,
+            state.clock
+        )];
+        lines.extend(state.senders.iter().enumerate().map(sender_line));
+        self.print(&lines.join("\n"));
+    }
+}
+
+/// "place 0 is 1:7, place 1 is field:node, place i from 2 is (1 + i):(7 + i);
+/// the first count places are given."
+pub fn senders(count: u32, second: (u8, u16)) -> Vec<(u8, u16)> {
+    let sender = |place: u32| match place {
+        1 => second,
+        _ => ((1 + place) as u8, (7 + place) as u16),
+    };
+    (0..count).map(sender).collect()
+}
+
+/// "w place field node rv r open version number tcd n tbn u map stamp alive
+/// heard-stamp al_tm_out".
+fn sender_line((place, sender): (usize, &Sender)) -> String {
+    let open = &sender.message;
+    let numbers: [u64; 17] = [
+        place as u64,
+        sender.field.into(),
+        sender.node.into(),
+        sender.last_version.into(),
+        sender.last_number.into(),
+        sender.open.into(),
+        open.version.into(),
+        open.seq.into(),
+        open.tcd.into(),
+        open.n.into(),
+        open.tbn.into(),
+        open.u.into(),
+        open.map,
+        open.stamp,
+        sender.alive.into(),
+        sender.alive_stamp,
+        sender.al_tm_out.into(),
+    ];
+    format!("w {}", joined(&numbers))
+}
+
+/// "one blank between".
+fn joined<N: ToString>(numbers: &[N]) -> String {
+    let words: Vec<String> = numbers.iter().map(N::to_string).collect();
+    words.join(" ")
+}
+
+/// "s = 7; then, for each octet in order, s = (31 x s + octet) mod 2^32."
+fn sum(octets: &[u8]) -> u32 {
+    octets.iter().fold(7, |s: u32, octet| {
+        s.wrapping_mul(31).wrapping_add(u32::from(*octet))
+    })
+}
+
+#[cfg(test)]
+mod tests {
+    use super::*;
+
+    #[test]
+    fn sums_by_hand() {
+        assert_eq!(sum(&[]), 7);
+        assert_eq!(sum(&[1]), 218);
+        assert_eq!(sum(&[1, 2]), 6_760);
+        // 31 x 6760 + 255 = 209815, and so on past 2^32 = 4294967296:
+        // 6504265, 201632215, 6250598665 - 4294967296 = 1955631369.
+        assert_eq!(sum(&[1, 2, 255, 0, 0, 0]), 1_955_631_369);
+    }
+
+    #[test]
+    fn tables_of_senders() {
+        assert_eq!(senders(0, (2, 9)), []);
+        assert_eq!(senders(3, (2, 9)), [(1, 7), (2, 9), (3, 9)]);
+        assert_eq!(senders(17, (2, 8))[16], (17, 23));
+    }
+}

@@ -1,0 +1,825 @@
+//! The edges: what each row of `docs/EDGES.md` must answer by 01, written by
+//! hand. Sums are made anew here, over messages and storage kept apart from the
+//! code under test.
+
+use std::sync::OnceLock;
+
+/// All lines, made once for all tests.
+fn lines() -> &'static str {
+    static LINES: OnceLock<String> = OnceLock::new();
+    LINES.get_or_init(second::edges::lines)
+}
+
+/// The lines of one section, without its title.
+fn section(title: &str) -> Vec<String> {
+    let mut found = lines()
+        .lines()
+        .skip_while(|line| *line != format!("# {title}"));
+    assert!(found.next().is_some(), "no section {title:?}");
+    found
+        .take_while(|line| !line.starts_with('#'))
+        .map(str::to_string)
+        .collect()
+}
+
+/// A line without the two sums of a P line.
+fn without_sums(line: &str) -> String {
+    let words: Vec<&str> = line.split(' ').collect();
+    match words[0] {
+        "P" => words[..8].join(" "),
+        _ => line.to_string(),
+    }
+}
+
+fn answers(title: &str) -> Vec<String> {
+    section(title)
+        .iter()
+        .map(|line| without_sums(line))
+        .collect()
+}
+
+/// The section's lines, sums apart, are these.
+fn expect(title: &str, expected: &str) {
+    let expected: Vec<&str> = expected.lines().collect();
+    assert_eq!(answers(title), expected, "{title}");
+}
+
+/// Each line of the section is a letter, one of these numbers, and 0 for the rest
+/// ("nothing more").
+fn expect_numbers(title: &str, letter: &str, rest: &str, numbers: &[u8]) {
+    let expected: Vec<String> = numbers
+        .iter()
+        .map(|number| format!("{letter} {number}{rest}"))
+        .collect();
+    assert_eq!(answers(title), expected, "{title}");
+}
+
+#[test]
+fn setup_by_01s_limits() {
+    let numbers = [
+        0, // the base
+        10, 0, 0, 10, // N1 0, 1, 1024, 1025
+        10, 0, 0, 10, // T 0, 1, 600000, 600001
+        10, 0, 0, 10, // senders 0, 1, 16, 17
+        10, 0, 0, // data field 0, 1, 255
+        10, 0, 0, 10, // node 0, 1, 4095, 4096
+        0, 10, 10, // mode 1, 2, 255
+        10, 0, 0, // a pair twice; past the count; only the node
+        10, 0, // places 1 and 15; past the count
+    ];
+    expect_numbers("1.1 Setup", "S", "", &numbers);
+}
+
+/// "At setup the clock is 0, nobody is heard, nothing is open and every last
+/// version and number is 0." A refused one: "online, N1 1, T 1".
+#[test]
+fn what_setup_returns() {
+    expect(
+        "1.2 What setup returns",
+        "\
+S 0
+W 0 16 15000 0 2
+w 0 1 7 0 0 0 0 0 0 0 0 0 0 0 0 0 0
+w 1 2 9 0 0 0 0 0 0 0 0 0 0 0 0 0 0
+S 0
+W 1 1024 600000 0 2
+w 0 1 7 0 0 0 0 0 0 0 0 0 0 0 0 0 0
+w 1 255 4095 0 0 0 0 0 0 0 0 0 0 0 0 0 0
+S 10
+W 0 1 1 0 0",
+    );
+}
+
+/// A P line of a fresh state: a refusal; 0, the first of several held; 1, first,
+/// with the delivered length.
+fn fresh_message(number: u8, length: usize) -> String {
+    match number {
+        0 => "P 0 0 1 0 0 0 0".into(),
+        1 => format!("P 1 1 0 {length} 0 0 0"),
+        _ => format!("P {number} 0 0 0 0 0 0"),
+    }
+}
+
+fn expect_fresh_messages(title: &str, rows: &[(u8, usize)]) {
+    let expected: Vec<String> = rows
+        .iter()
+        .map(|(number, length)| fresh_message(*number, *length))
+        .collect();
+    assert_eq!(answers(title), expected, "{title}");
+}
+
+#[test]
+fn places_of_the_header() {
+    let numbers = [
+        13, 1, 1, 13, // SEQ 0, 1, M, M + 1
+        13, 1, 1, 13, 13, // TCD 0, 1, 59999, 60000, 65535
+        1, 13, // PRI 7, 8
+        15, 13, 13, // MODE 1, 2, 256 at an online node
+        13, 13, 13, 13, 13, // H_TYPE, domain, INQ_ID twice, VER
+        13, 13, 13, 13, 13, // GTID twice, PVER 0 and 2, FUI
+        1, 1, // DA, M_CTL
+        14, 14, 14, 14, // data field, node, 4103, the pair
+    ];
+    let rows: Vec<(u8, usize)> = numbers.iter().map(|number| (*number, 10)).collect();
+    expect_fresh_messages("2.1 One place of the header", &rows);
+}
+
+#[test]
+fn lengths_storage_and_the_lowest_number() {
+    let lengths = [
+        (12, 0),
+        (12, 0),
+        (1, 0),
+        (1, 1_396),
+        (12, 0),
+        (12, 0),
+        (12, 0),
+    ];
+    expect_fresh_messages("2.2 Lengths", &lengths);
+    let storage = [(1, 10), (11, 0), (11, 0), (11, 0), (11, 0), (12, 0)];
+    expect_fresh_messages("2.3 Storage", &storage);
+    let lowest = [(12, 0), (13, 0), (14, 0), (14, 0), (15, 0)];
+    expect_fresh_messages("2.4 Two numbers at once", &lowest);
+}
+
+#[test]
+fn a_test_node_and_the_empty_state() {
+    expect(
+        "2.5 A test node",
+        "S 0\nP 13 0 0 0 0 0 0\nP 1 1 0 10 0 0 0\nP 1 2 0 10 0 0 0",
+    );
+    expect(
+        "2.6 The empty state",
+        "S 10\nP 14 0 0 0 0 0 0\nP 13 0 0 0 0 0 0\nP 12 0 0 0 0 0 0\nP 11 0 0 0 0 0 0",
+    );
+}
+
+#[test]
+fn cuts_possible_and_not() {
+    let numbers = [
+        16, 16, 1, 16, // n -64, -1, 0, 2^32 - 65
+        0, 16, 0, 16, // n 16384, 16385: first piece, last piece
+        16, 16, 16, // CBN 0, CBN 0 of 2, TBN 0
+        16, 16, // CBN above TBN
+        16, 16, // TBN 1, p unlike n
+        16, 0, 0, 12, // u 255, 256, 1396, 1397
+        16, 0, // 512 < n: n 512, 513
+        0, 16, // n <= 768: n 768, 769
+        0, 16, 0, // TBN 64, TBN 65, piece 64 of 64
+        16, 16, // n - p 0, -1
+        0, 16, // n - p 512, 513, by 2
+        16, 0, 16, // quotient 255, 1396, 1397
+        16, 0, 0, 16, // p 0, 1, u, u + 1
+    ];
+    let rows: Vec<(u8, usize)> = numbers.iter().map(|number| (*number, 0)).collect();
+    expect_fresh_messages("3.1 Cut rule", &rows);
+}
+
+/// M is 2147483647; 85 - 101 - 1 is -17, M - 17 is 2147483630.
+#[test]
+fn the_number_check_with_n1_16() {
+    expect(
+        "4.1 N1 16",
+        "\
+P 1 5 0 10 0 0 0
+P 1 1 0 10 0 0 0
+P 1 2 0 10 0 0 0
+P 17 0 0 0 0 0 0
+P 17 0 0 0 0 0 0
+P 1 4 0 10 2147483630 0 0
+P 1 4 0 10 2 0 0
+P 1 3 0 10 0 0 0
+P 1 4 0 10 2147483558 0 0
+P 17 0 0 0 0 0 0
+P 1 2 0 10 0 0 0
+P 1 4 0 10 1 0 0
+P 17 0 0 0 0 0 0
+P 1 4 0 10 2147483630 0 0
+P 1 5 0 10 0 0 0
+W 0 16 15000 0 2
+w 0 1 7 6 2147483634 0 0 0 0 0 0 0 0 0 0 0 0
+w 1 2 9 0 0 0 0 0 0 0 0 0 0 0 0 0 0
+P 1 3 0 10 0 0 0
+P 1 1 0 10 0 0 0
+P 1 1 0 10 0 0 0
+P 1 5 0 10 0 0 0
+W 0 16 15000 0 2
+w 0 1 7 0 5 0 0 0 0 0 0 0 0 0 0 0 0
+w 1 2 9 0 0 0 0 0 0 0 0 0 0 0 0 0 0
+P 1 1 0 10 0 0 0
+P 1 2 0 10 0 0 0",
+    );
+}
+
+/// 99 - 100 - 1 is -2; 976 - 2000 - 1 is -1025; 2147483599 - 976 - 1.
+#[test]
+fn the_number_check_with_n1_at_its_ends() {
+    expect(
+        "4.2 N1 1",
+        "\
+S 0
+P 1 1 0 10 0 0 0
+P 17 0 0 0 0 0 0
+P 1 4 0 10 2147483645 0 0
+P 1 2 0 10 0 0 0",
+    );
+    expect(
+        "4.3 N1 1024",
+        "\
+S 0
+P 1 1 0 10 0 0 0
+P 17 0 0 0 0 0 0
+P 1 4 0 10 2147482622 0 0
+P 17 0 0 0 0 0 0
+P 1 4 0 10 2147482622 0 0",
+    );
+}
+
+#[test]
+fn four_pieces() {
+    expect(
+        "5.1 Four pieces",
+        "\
+P 0 0 1 0 0 0 0
+Q 0 1 0 2
+P 0 0 2 0 0 0 0
+P 0 0 3 0 0 0 0
+Q 0 1 0 4
+P 1 1 0 4500 0 0 0
+Q 0 0 0 0
+P 17 0 0 0 0 0 0
+P 0 0 1 0 0 0 0
+P 20 0 0 0 0 0 0
+P 0 0 2 0 0 0 0
+P 0 0 3 0 0 0 0
+Q 0 1 0 1
+P 20 0 0 0 0 0 0
+P 1 2 0 4500 0 0 0",
+    );
+}
+
+/// After each k pieces 1 to k are held from below.
+#[test]
+fn twelve_pieces_and_sixty_four() {
+    let mut twelve = Vec::new();
+    for k in 1..=5 {
+        twelve.push(format!("P 0 0 {} 0 0 0 0", 2 * k - 1));
+        twelve.push(format!("P 0 0 {} 0 0 0 0", 2 * k));
+        twelve.push(format!("Q 0 1 0 {}", k + 1));
+    }
+    twelve.push("P 0 0 11 0 0 0 0".into());
+    twelve.push("P 1 1 0 16384 0 0 0".into());
+    twelve.push("Q 0 0 0 0".into());
+    expect("5.2 Twelve pieces", &twelve.join("\n"));
+    let mut most: Vec<String> = (1..=63)
+        .map(|held| format!("P 0 0 {held} 0 0 0 0"))
+        .collect();
+    most.push("P 1 1 0 16384 0 0 0".into());
+    most.push("Q 0 0 0 0".into());
+    expect("5.3 Sixty-four pieces", &most.join("\n"));
+}
+
+#[test]
+fn two_senders() {
+    expect(
+        "5.4 Two senders",
+        "\
+P 0 0 1 0 0 0 0
+Q 0 1 1 1
+P 0 0 1 0 0 0 0
+Q 0 1 0 2
+P 0 0 2 0 0 0 0
+P 0 0 2 0 0 0 0
+P 1 1 0 600 0 0 0
+Q 0 1 1 2
+P 1 1 0 600 0 0 0",
+    );
+}
+
+/// R is 102 behind the first one-piece message, so 112 skips 9.
+#[test]
+fn drops() {
+    expect(
+        "5.5 Drops",
+        "\
+P 0 0 1 0 0 0 0
+P 0 0 1 0 0 5 100
+Q 0 1 0 2
+P 18 0 0 0 0 0 0
+P 0 0 1 0 0 5 101
+P 0 0 1 0 0 6 50
+P 1 1 0 10 0 5 101
+Q 0 0 0 0
+P 0 0 1 0 0 0 0
+P 17 0 0 0 0 0 0
+P 18 0 0 0 0 0 0
+P 18 0 0 0 0 0 0
+P 1 4 0 10 9 5 110
+P 0 0 1 0 0 0 0
+P 18 0 0 0 0 0 0
+P 0 0 1 0 0 5 2147483647
+P 1 5 0 300 0 0 0
+W 0 16 15000 0 2
+w 0 1 7 5 112 0 0 0 0 0 0 0 0 0 0 0 0
+w 1 2 9 0 0 0 0 0 0 0 0 0 0 0 0 0 0",
+    );
+}
+
+/// Pieces 1, 2 and 4 are bits 0, 1 and 3: map 11.
+#[test]
+fn unlike_the_open_message() {
+    expect(
+        "5.6 Unlike the open message",
+        "\
+P 0 0 1 0 0 0 0
+P 19 0 0 0 0 0 0
+P 19 0 0 0 0 0 0
+P 19 0 0 0 0 0 0
+P 19 0 0 0 0 0 0
+P 19 0 0 0 0 0 0
+P 19 0 0 0 0 0 0
+P 19 0 0 0 0 0 0
+P 19 0 0 0 0 0 0
+P 20 0 0 0 0 0 0
+P 20 0 0 0 0 0 0
+P 0 0 2 0 0 0 0
+P 0 0 3 0 0 0 0
+W 0 16 15000 0 2
+w 0 1 7 0 0 1 5 100 1 4500 4 1332 11 0 0 0 0
+w 1 2 9 0 0 0 0 0 0 0 0 0 0 0 0 0 0
+P 1 1 0 4500 0 0 0
+P 17 0 0 0 0 0 0",
+    );
+}
+
+/// "Delivery leaves RV and R", so (0, 1) opens again and (0, 2) comes first.
+#[test]
+fn unchecked_of_several_pieces() {
+    expect(
+        "5.7 Unchecked, of several pieces",
+        "\
+P 0 0 1 0 0 0 0
+P 1 5 0 300 0 0 0
+P 0 0 1 0 0 0 0
+P 19 0 0 0 0 0 0
+P 20 0 0 0 0 0 0
+P 0 0 1 0 0 0 1
+P 18 0 0 0 0 0 0
+W 0 16 15000 0 2
+w 0 1 7 0 0 1 0 2 1 300 2 256 1 0 0 0 0
+w 1 2 9 0 0 0 0 0 0 0 0 0 0 0 0 0 0
+P 1 1 0 300 0 0 0
+W 0 16 15000 0 2
+w 0 1 7 0 2 0 0 0 0 0 0 0 0 0 0 0 0
+w 1 2 9 0 0 0 0 0 0 0 0 0 0 0 0 0 0",
+    );
+}
+
+#[test]
+fn the_clock_never_goes_back() {
+    let numbers = [0, 0, 0, 21, 0, 21, 21, 0, 0, 0, 21];
+    expect_numbers("6.1 The clock", "C", " 0 0", &numbers);
+}
+
+/// T 15000. Sender 0's stamp is 8000, then 23000, then 38000; sender 1's is 9000,
+/// then 38000.
+#[test]
+fn ages_of_open_messages() {
+    expect(
+        "6.2 Age of a message",
+        "\
+C 0 0 0
+P 0 0 1 0 0 0 0
+C 0 0 0
+P 0 0 2 0 0 0 0
+C 0 0 0
+P 20 0 0 0 0 0 0
+P 0 0 1 0 0 0 0
+W 0 16 15000 9000 2
+w 0 1 7 0 0 1 5 100 1 4500 4 1332 3 8000 0 0 0
+w 1 2 9 0 0 1 5 100 1 300 2 256 1 9000 0 0 0
+C 0 0 0
+C 0 1 0
+Q 0 1 1 2
+P 0 0 1 0 0 0 0
+C 0 2 0
+C 0 0 0
+C 0 1 0
+Q 0 0 0 0
+P 0 0 1 0 0 0 0
+P 0 0 1 0 0 0 0
+C 0 3 0",
+    );
+    let once = "S 0\nP 0 0 1 0 0 0 0\nC 0 0 0\nC 0 1 0";
+    expect("6.3 T at its ends", &[once, once].join("\n"));
+}
+
+/// al_tm_out is in seconds: 1999 + 4294968 x 1000 = 4294969999.
+#[test]
+fn silent_senders() {
+    expect(
+        "6.4 al_tm_out",
+        "\
+A 0
+C 0 0 1
+A 0
+A 0
+C 0 0 0
+A 0
+C 0 0 1
+C 0 0 0
+C 0 0 2
+A 0
+A 0
+C 0 0 0
+C 0 0 2
+C 0 0 0
+W 0 16 15000 1099511627776 2
+w 0 1 7 0 0 0 0 0 0 0 0 0 0 0 1 1999 4294967295
+w 1 2 9 0 0 0 0 0 0 0 0 0 0 0 0 0 0",
+    );
+    expect(
+        "6.5 Both maps",
+        "A 0\nA 0\nP 0 0 1 0 0 0 0\nC 0 0 0\nP 0 0 1 0 0 0 0\nC 0 0 2\nC 0 3 1",
+    );
+}
+
+#[test]
+fn alive_pdus() {
+    let lengths = [12, 0, 0, 12, 12, 12, 12, 12, 22, 22, 22];
+    expect_numbers("7.1 Lengths of an alive PDU", "A", "", &lengths);
+    let places = [
+        13, 13, 13, 13, // H_TYPE, domain, PVER, FUI
+        0, 0, 13, // PRI 0, 7, 8
+        0, 13, // MODE 1, 2
+        13, 0, 13, 13, // TCD 60002, 60003, 60004, 1
+        0, 0, // SEQ 0, M + 1
+        14, 14, // sender
+        22, 22, 22, // CBN 0, 2; TBN 2
+        22, 22, 0, // group 1, 256; the rest of DA
+        22, 22, 22, 22, // al_protocol 3, 5; al_ver 0, 2
+        22, 0, 0, 0, 22, // al_mode 0 to 4
+        0,  // fu2
+    ];
+    expect_numbers("7.2 One place of an alive PDU", "A", "", &places);
+    expect_numbers("7.3 Two numbers at once", "A", "", &[12, 13, 13, 14]);
+}
+
+#[test]
+fn alive_and_dead() {
+    expect(
+        "7.4 Alive and dead",
+        "\
+C 0 0 0
+A 0
+W 0 16 15000 500 2
+w 0 1 7 0 0 0 0 0 0 0 0 0 0 0 1 500 60
+w 1 2 9 0 0 0 0 0 0 0 0 0 0 0 0 0 0
+C 0 0 0
+A 0
+A 0
+A 22
+W 0 16 15000 600 2
+w 0 1 7 0 0 0 0 0 0 0 0 0 0 0 1 600 7
+w 1 2 9 0 0 0 0 0 0 0 0 0 0 0 1 600 9
+A 0
+W 0 16 15000 600 2
+w 0 1 7 0 0 0 0 0 0 0 0 0 0 0 0 0 0
+w 1 2 9 0 0 0 0 0 0 0 0 0 0 0 1 600 9
+A 0
+A 0
+W 0 16 15000 600 2
+w 0 1 7 0 0 0 0 0 0 0 0 0 0 0 1 600 4294967295
+w 1 2 9 0 0 0 0 0 0 0 0 0 0 0 0 0 0",
+    );
+    expect(
+        "7.5 Alive at the empty state",
+        "S 10\nA 14\nA 13\nA 12\nC 0 0 0\nQ 0 0 0 0\nW 0 1 1 1000 0",
+    );
+}
+
+/// What the four calls answer on a damaged state.
+const REFUSED: [&str; 4] = ["P 9 0 0 0 0 0 0", "A 9", "C 9 0 0", "Q 9 0 0 0"];
+/// Piece 2 is held, piece 1 joins it, piece 3 is missing.
+const PASSES: [&str; 4] = ["P 0 0 2 0 0 0 0", "A 0", "C 0 0 0", "Q 0 1 0 3"];
+/// The state passes; the PDU's n differs from the open message's.
+const UNLIKE: [&str; 4] = ["P 19 0 0 0 0 0 0", "A 0", "C 0 0 0", "Q 0 1 0 1"];
+/// Nothing was open: piece 1 opens, piece 2 is missing.
+const OPENS: [&str; 4] = ["P 0 0 1 0 0 0 0", "A 0", "C 0 0 0", "Q 0 1 0 2"];
+/// The empty state: nobody is registered.
+const NOBODY: [&str; 4] = ["P 14 0 0 0 0 0 0", "A 14", "C 0 0 0", "Q 0 0 0 0"];
+
+/// The rows of the section, from 1, that are not refused with 9.
+fn expect_rows(title: &str, count: usize, passing: &[(usize, [&str; 4])]) {
+    let mut rows = vec![REFUSED; count];
+    for (row, answers) in passing {
+        rows[row - 1] = *answers;
+    }
+    assert_eq!(answers(title), rows.concat(), "{title}");
+}
+
+#[test]
+fn damaged_states() {
+    // Nothing changed; last version 0 with number 7.
+    let whole = [(1, PASSES), (14, PASSES)];
+    expect_rows("8.1 One value changed", 20, &whole);
+    // n 3997, n 5328, all of 64 but piece 1.
+    let possible = [(6, UNLIKE), (7, UNLIKE), (13, UNLIKE)];
+    expect_rows("8.2 Cut and map of the open message", 14, &possible);
+    let junk = [(1, OPENS), (2, PASSES), (3, PASSES)];
+    expect_rows("8.3 What is never looked at", 3, &junk);
+    expect_rows("8.4 No senders", 4, &[(1, NOBODY)]);
+}
+
+/// ms 7000 is 0 to 7 seconds or more; ms 15000 is T, and 15 seconds.
+#[test]
+fn sixteen_senders() {
+    let mut expected = vec!["S 0".to_string()];
+    expected.extend((0..16).map(|_| "P 0 0 1 0 0 0 0".into()));
+    expected.push("Q 0 1 0 1".into());
+    expected.extend((0..16).map(|_| "P 1 1 0 300 0 0 0".into()));
+    expected.push("Q 0 0 0 0".into());
+    expected.extend((0..16).map(|_| "A 0".into()));
+    expected.push("P 0 0 1 0 0 0 0".into());
+    expected.push("Q 0 1 15 1".into());
+    expected.push("C 0 0 255".into());
+    expected.push("W 0 16 15000 7000 16".into());
+    expected.extend((0..16).map(sender_after_7_seconds));
+    expected.push("C 0 32768 65280".into());
+    expect("9.1 Sixteen senders", &expected.join("\n"));
+}
+
+fn sender_after_7_seconds(i: u32) -> String {
+    let (field, node, r) = (1 + i, 7 + i, 100 + i);
+    let open = match i {
+        15 => "1 5 116 1 300 2 256 2 0",
+        _ => "0 0 0 0 0 0 0 0 0",
+    };
+    let alive = if i < 8 {
+        "0 0 0".into()
+    } else {
+        format!("1 0 {i}")
+    };
+    format!("w {i} {field} {node} 5 {r} {open} {alive}")
+}
+
+// The sums.
+
+const AREA: usize = 16_384;
+
+fn sum(octets: &[u8]) -> u64 {
+    octets
+        .iter()
+        .fold(7, |s, octet| (31 * s + u64::from(*octet)) % 4_294_967_296)
+}
+
+/// Octets `from` to `to` of the message with this number.
+fn message(seq: usize, from: usize, to: usize) -> Vec<u8> {
+    (from..to)
+        .map(|i| ((7 * i + i / 256 + seq) % 256) as u8)
+        .collect()
+}
+
+/// Storage as the rows leave it, kept by hand.
+struct Kept {
+    storage: Vec<u8>,
+}
+
+/// What a row that answers 0 or 1 brought: sender's place, SEQ, n, u, and the
+/// piece (0: the message is of one piece).
+type Brought = [usize; 5];
+
+impl Kept {
+    fn new(senders: usize) -> Kept {
+        Kept {
+            storage: vec![170; senders * AREA],
+        }
+    }
+
+    /// The part delivered, if this piece is the last to come.
+    fn bring(&mut self, [place, seq, n, u, piece]: Brought) -> Vec<u8> {
+        if piece > 0 {
+            let (from, to) = ((piece - 1) * u, (piece * u).min(n));
+            let at = place * AREA;
+            self.storage[at + from..at + to].copy_from_slice(&message(seq, from, to));
+        }
+        message(seq, 0, n)
+    }
+}
+
+/// (number, part-sum, storage-sum) of each P line.
+fn sums(title: &str) -> Vec<(u64, u64, u64)> {
+    let numbers = |line: &String| {
+        let words: Vec<&str> = line.split(' ').collect();
+        let number = |at: usize| words[at].parse().unwrap();
+        (words[0] == "P").then(|| (number(1), number(8), number(9)))
+    };
+    section(title).iter().filter_map(numbers).collect()
+}
+
+/// "A piece of several changes exactly its p octets in its sender's area"; the
+/// delivered part is the message, octet for octet; a refusal alters no storage.
+fn expect_sums(title: &str, senders: usize, brought: &[Brought]) {
+    let mut kept = Kept::new(senders);
+    let mut brought = brought.iter();
+    for (row, (number, part, storage)) in sums(title).into_iter().enumerate() {
+        let mut delivered = Vec::new();
+        if number <= 1 {
+            let whole = kept.bring(*brought.next().expect("a row too many"));
+            if number == 1 {
+                delivered = whole;
+            }
+        }
+        assert_eq!(part, sum(&delivered), "{title}, P line {row}");
+        assert_eq!(storage, sum(&kept.storage), "{title}, P line {row}");
+    }
+    assert!(brought.next().is_none(), "{title}: a row too few");
+}
+
+/// These pieces of one message.
+fn pieces(message: [usize; 4], pieces: &[usize]) -> Vec<Brought> {
+    let [place, seq, n, u] = message;
+    pieces
+        .iter()
+        .map(|piece| [place, seq, n, u, *piece])
+        .collect()
+}
+
+#[test]
+fn sums_of_joined_messages() {
+    let first = pieces([0, 100, 4_500, 1_332], &[1, 2, 3, 4]);
+    let second = pieces([0, 101, 4_500, 1_332], &[4, 3, 2, 1]);
+    expect_sums("5.1 Four pieces", 2, &[first, second].concat());
+    let order = [12, 1, 11, 2, 10, 3, 9, 4, 8, 5, 7, 6];
+    let twelve = pieces([0, 100, 16_384, 1_396], &order);
+    expect_sums("5.2 Twelve pieces", 2, &twelve);
+    let reversed: Vec<usize> = (1..=64).rev().collect();
+    let most = pieces([1, 100, 16_384, 256], &reversed);
+    expect_sums("5.3 Sixty-four pieces", 2, &most);
+    let between = [
+        [1, 100, 600, 256, 3],
+        [0, 104, 600, 256, 1],
+        [0, 104, 600, 256, 3],
+        [1, 100, 600, 256, 1],
+        [0, 104, 600, 256, 2],
+        [1, 100, 600, 256, 2],
+    ];
+    expect_sums("5.4 Two senders", 2, &between);
+}
+
+#[test]
+fn sums_of_dropped_and_unlike_messages() {
+    let drops = [
+        [0, 100, 4_500, 1_332, 2],
+        [0, 101, 4_500, 1_332, 1],
+        [0, 50, 4_500, 1_332, 3],
+        [0, 101, 4_500, 1_332, 4],
+        [0, 102, 10, 256, 0],
+        [0, 110, 300, 256, 1],
+        [0, 112, 10, 256, 0],
+        [0, 2_147_483_647, 300, 256, 1],
+        [0, 1, 300, 256, 2],
+        [0, 1, 300, 256, 1],
+    ];
+    expect_sums("5.5 Drops", 2, &drops);
+    let alike = pieces([0, 100, 4_500, 1_332], &[2, 4, 1, 3]);
+    expect_sums("5.6 Unlike the open message", 2, &alike);
+    let unchecked = pieces([0, 1, 300, 256], &[2, 1, 1]);
+    let second = pieces([0, 2, 300, 256], &[1, 2]);
+    let title = "5.7 Unchecked, of several pieces";
+    expect_sums(title, 2, &[unchecked, second].concat());
+}
+
+#[test]
+fn sums_of_the_clocks_messages() {
+    let brought = [
+        [0, 100, 4_500, 1_332, 1],
+        [0, 100, 4_500, 1_332, 2],
+        [1, 100, 300, 256, 1],
+        [0, 100, 4_500, 1_332, 3],
+        [1, 100, 300, 256, 2],
+        [0, 100, 4_500, 1_332, 1],
+    ];
+    expect_sums("6.2 Age of a message", 2, &brought);
+    let twice = pieces([0, 100, 300, 256], &[1, 1]);
+    expect_sums("6.3 T at its ends", 2, &twice);
+    let both = [[1, 100, 300, 256, 1], [0, 100, 300, 256, 1]];
+    expect_sums("6.5 Both maps", 2, &both);
+}
+
+#[test]
+fn sums_of_sixteen_senders() {
+    let of = |i: usize, piece: usize| [i, 100 + i, 300, 256, piece];
+    let mut brought: Vec<Brought> = (0..16).map(|i| of(i, 2)).collect();
+    brought.extend((0..16).rev().map(|i| of(i, 1)));
+    brought.push([15, 116, 300, 256, 2]);
+    expect_sums("9.1 Sixteen senders", 16, &brought);
+}
+
+#[test]
+fn sums_of_single_messages() {
+    let numbers =
+        |seqs: &[usize]| -> Vec<Brought> { seqs.iter().map(|seq| [0, *seq, 10, 256, 0]).collect() };
+    let m = 2_147_483_647;
+    let n1_16 = [1, 100, 101, 85, 88, 88, m, 1, 3, m - 13, 1];
+    let version_0 = [2, 2, 5, 1, 7, 8];
+    expect_sums("4.1 N1 16", 2, &numbers(&[&n1_16[..], &version_0].concat()));
+    expect_sums("4.2 N1 1", 2, &numbers(&[100, 99, 100]));
+    let n1_1024 = [2_000, 976, 2_147_483_599];
+    expect_sums("4.3 N1 1024", 2, &numbers(&n1_1024));
+    expect_sums("2.5 A test node", 2, &numbers(&[100, 101]));
+    // What is laid over the header leaves the octets behind it.
+    expect_sums("2.1 One place of the header", 2, &numbers(&[100; 7]));
+    expect_sums("2.4 Two numbers at once", 2, &[]);
+    let lengths = [[0, 100, 0, 256, 0], [0, 100, 1_396, 256, 0]];
+    expect_sums("2.2 Lengths", 2, &lengths);
+}
+
+#[test]
+fn sums_of_other_lengths_of_storage() {
+    let whole = sum(&message(100, 0, 10));
+    let lent: Vec<u64> = [32_768, 32_767, 32_769, 0, 32_767, 32_768]
+        .iter()
+        .map(|length| sum(&vec![170; *length]))
+        .collect();
+    let expected = [
+        (1, whole, lent[0]),
+        (11, 7, lent[1]),
+        (11, 7, lent[2]),
+        (11, 7, 7),
+        (11, 7, lent[4]),
+        (12, 7, lent[5]),
+    ];
+    assert_eq!(sums("2.3 Storage"), expected);
+    let one = 31 * 7 + 170;
+    let expected = [(14, 7, 7), (13, 7, 7), (12, 7, 7), (11, 7, one)];
+    assert_eq!(sums("2.6 The empty state"), expected);
+}
+
+/// The rows of 3.1 that are stored, from 0: place (CBN - 1) x u and p. Their
+/// octets start with message octet 0.
+const RAW_PIECES: [(usize, usize, usize); 12] = [
+    (4, 0, 1_396),
+    (6, 11 * 1_396, 1_028),
+    (16, 0, 256),
+    (17, 0, 1_396),
+    (20, 256, 256),
+    (21, 256, 256),
+    (23, 0, 256),
+    (25, 63 * 256, 256),
+    (28, 512, 100),
+    (31, 2_792, 100),
+    (34, 256, 1),
+    (35, 256, 256),
+];
+
+#[test]
+fn sums_of_raw_pieces() {
+    let sums = sums("3.1 Cut rule");
+    assert_eq!(sums.len(), 37);
+    for (row, (_, part, storage)) in sums.into_iter().enumerate() {
+        let mut kept = Kept::new(2).storage;
+        if let Some((_, place, p)) = RAW_PIECES.iter().find(|raw| raw.0 == row) {
+            kept[*place..place + p].copy_from_slice(&message(100, 0, *p));
+        }
+        assert_eq!((part, storage), (7, sum(&kept)), "row {row}");
+    }
+}
+
+/// Piece 2 lies there from before; piece 1 comes in the rows that are stored.
+#[test]
+fn sums_of_damaged_states() {
+    let mut kept = Kept::new(2);
+    kept.bring([0, 100, 4_500, 1_332, 2]);
+    let before = sum(&kept.storage);
+    kept.bring([0, 100, 4_500, 1_332, 1]);
+    let after = sum(&kept.storage);
+    let titles = [
+        "8.1 One value changed",
+        "8.2 Cut and map of the open message",
+        "8.3 What is never looked at",
+    ];
+    for (number, part, storage) in titles.iter().flat_map(|title| sums(title)) {
+        let expected = if number == 0 { after } else { before };
+        assert_eq!((part, storage), (7, expected));
+    }
+    let nobody = sums("8.4 No senders");
+    assert_eq!(nobody, [(14, 7, 7), (9, 7, 7), (9, 7, 7), (9, 7, 7)]);
+}
+
+/// The page's titles and no others, in its order; as many lines as it says.
+#[test]
+fn the_sections_are_the_pages() {
+    let page = include_str!("../../docs/EDGES.md");
+    let of_page: Vec<&str> = page
+        .lines()
+        .filter_map(|line| line.strip_prefix("### `")?.split('`').next())
+        .collect();
+    let printed: Vec<&str> = lines()
+        .lines()
+        .filter(|line| line.starts_with('#'))
+        .collect();
+    assert_eq!(printed, of_page);
+    let in_all = format!("{} lines in all", lines().lines().count());
+    assert!(page.contains(&in_all), "{in_all}");
+}
