@@ -3,9 +3,10 @@ use mathlib.Core.Path.{_≡_, sym, ap, _∙_}
 use mathlib.Core.Logic.{_⊎_, ⊎-elim}
 use mathlib.Core.List.{List, _++_, append-assoc}
 use Prim.Native.Nat.{ℕ, _+_, _-_, _≤_, _<_}
+use native.Mathlib.Nat.{add-assoc}
 use native.Mathlib.Omega.{arith}
 use lib.ListN.{length, take, drop, length-append, length-take, length-drop, List·getD-append}
-use lib.Seq.{length-take-le, getD-append-add, getD-take, getD-drop, take-add, paste, take-length, drop-at, drop-drop, drop-append-seam}
+use lib.Seq.{length-take-le, getD-append-add, getD-take, getD-drop, take-add, paste, take-length, take-at, drop-at, drop-drop, drop-append-seam}
 use borrow.Author.Tests.{le-leb, lt-leb}
 use Rattle.octets.specs.Number.{octet}
 use Rattle.octets.specs.Run.{run, laid}
@@ -83,3 +84,21 @@ laid-drop s at p h =
     let back : drop at (laid s at p) ≡ p ++ drop (at + length p) s
     = ap (drop at) (laid-fits s at p h) ∙ drop-at (take at s) (p ++ drop (at + length p) s) at (length-take-le at s (omega arith)) in
     sym (drop-drop (length p) at (laid s at p)) ∙ ap (drop (length p)) back ∙ drop-append-seam p (drop (at + length p) s)
+
+-- A run laid down behind another is one with it.
+pub laid-on : (s : List ℕ) (at : ℕ) (p q : List ℕ) → at + (length p + length q) ≤ length s → laid (laid s at p) (at + length p) q ≡ laid s at (p ++ q)
+laid-on s at p q h =
+    let here : laid s at p ≡ take at s ++ p ++ drop (at + length p) s
+    = laid-fits s at p (omega arith) ∙ sym (append-assoc (take at s) p (drop (at + length p) s)) in
+    let front : length (take at s ++ p) ≡ at + length p = length-append (take at s) p ∙ rw (length-take-le at s (omega arith)) in
+    let before : take (at + length p) (laid s at p) ≡ take at s ++ p
+    = ap (take (at + length p)) here ∙ take-at (take at s ++ p) (drop (at + length p) s) (at + length p) front in
+    let behind : drop (at + length p + length q) (laid s at p) ≡ drop (at + (length p + length q)) s
+    = sym (drop-drop (length q) (at + length p) (laid s at p)) ∙ ap (drop (length q)) (laid-drop s at p (omega arith))
+    ∙ drop-drop (length q) (at + length p) s ∙ ap (λ (k : ℕ). drop k s) (add-assoc at (length p) (length q)) in
+    let both : length (p ++ q) ≡ length p + length q = length-append p q in
+    let rest = drop (at + (length p + length q)) s in
+    let whole : laid s at (p ++ q) ≡ take at s ++ (p ++ (q ++ rest))
+    = laid-fits s at (p ++ q) (omega arith) ∙ rw (both, append-assoc p q rest) in
+    laid-fits (laid s at p) (at + length p) q (omega (arith, length-laid s at p))
+    ∙ rw (before, behind, whole) (append-assoc (take at s) p (q ++ rest))
