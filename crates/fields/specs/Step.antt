@@ -22,7 +22,7 @@ use Rattle.fields.specs.declared.cutting.Kind.{Kind}
 use Rattle.fields.specs.declared.cutting.Kind.the-variants as kind
 use Rattle.fields.specs.declared.cutting.Next.{Next}
 use Rattle.fields.specs.declared.cutting.Next.the-variants as next
-use Rattle.fields.specs.declared.lines.Line.the-variants as line
+use Rattle.lines.specs.declared.Line.the-variants as line
 use Rattle.fields.specs.declared.step.Step.{Step}
 use Rattle.fields.specs.Field.{sizeOf, headSize, contentsOf, setupOf, clockOf}
 

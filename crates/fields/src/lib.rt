@@ -3,5 +3,4 @@
 // Every public function is total: octets, states and storage may be any. What a program adds is reading and writing alone.
 
 pub mod cutting;
-pub mod lines;
 pub mod step;

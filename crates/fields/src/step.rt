@@ -19,7 +19,7 @@ use crate::cutting::clock_of;
 use crate::cutting::contents;
 use crate::cutting::next_field;
 use crate::cutting::setup_of;
-use crate::lines::Line;
+use lines::Line;
 use alive::alive;
 use clock::clock;
 use octets::read2;

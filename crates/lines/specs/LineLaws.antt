@@ -16,8 +16,8 @@ use Rattle.io.specs.Digits.{glyph, digits, Fewest}
 use Rattle.octets.specs.Run.{laid}
 use Rattle.octets.specs.RunLaws.{laid-fits, laid-on}
 use Rattle.octets.specs.Split.{lt-or-le, cond-case}
-use Rattle.fields.specs.declared.lines.Text.{Text}
-use Rattle.fields.specs.Line.{decimal, wordOf, room, textOf, added}
+use Rattle.lines.specs.declared.Text.{Text}
+use Rattle.lines.specs.Line.{decimal, wordOf, room, textOf, added}
 
 -- ---- decimal
 

@@ -1,8 +1,8 @@
 -- Laid down behind the text. Assumes nothing.
 use borrow.Author.Needs.{needs}
-use Rattle.fields.specs.Line.{added}
-use Rattle.fields.proofs.lines.newline.Statement.{statement}
-use Rattle.fields.proofs.lines.newline.Tie as tie
+use Rattle.lines.specs.Line.{added}
+use Rattle.lines.proofs.newline.Statement.{statement}
+use Rattle.lines.proofs.newline.Tie as tie
 
 slice-aggregate-lay : tie.Need-slice-aggregate-lay
 slice-aggregate-lay c = search needs

@@ -1,9 +1,9 @@
 -- The octets, and zeros behind them. Assumes nothing.
 use borrow.Author.Needs.{needs}
 use mathlib.Core.Path.{refl}
-use Rattle.fields.specs.Line.{textOf}
-use Rattle.fields.proofs.lines.letter.Statement.{statement}
-use Rattle.fields.proofs.lines.letter.Tie as tie
+use Rattle.lines.specs.Line.{textOf}
+use Rattle.lines.proofs.letter.Statement.{statement}
+use Rattle.lines.proofs.letter.Tie as tie
 
 array-write-octets : tie.Need-array-write-octets
 array-write-octets c = search needs

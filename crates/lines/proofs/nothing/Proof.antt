@@ -1,8 +1,8 @@
 -- The octets, and zeros behind them. Assumes nothing.
 use mathlib.Core.Path.{refl}
-use Rattle.fields.specs.Line.{textOf}
-use Rattle.fields.proofs.lines.nothing.Statement.{statement}
-use Rattle.fields.proofs.lines.nothing.Tie as tie
+use Rattle.lines.specs.Line.{textOf}
+use Rattle.lines.proofs.nothing.Statement.{statement}
+use Rattle.lines.proofs.nothing.Tie as tie
 
 returns : tie.Need-returns
 unfolding textOf

@@ -1,9 +1,9 @@
 -- Word by word. Assumes nothing.
 use borrow.Author.Needs.{needs}
 use native.Mathlib.Omega.{arith}
-use Rattle.fields.specs.LineLaws.{Holds, holds-letter, holds-word, holds-newline}
-use Rattle.fields.proofs.lines.one.Statement.{statement}
-use Rattle.fields.proofs.lines.one.Tie as tie
+use Rattle.lines.specs.LineLaws.{Holds, holds-letter, holds-word, holds-newline}
+use Rattle.lines.proofs.one.Statement.{statement}
+use Rattle.lines.proofs.one.Tie as tie
 
 letter-requires : tie.Need-letter-requires
 letter-requires c κs = search needs

@@ -6,9 +6,9 @@ use mathlib.Core.List.{List, [], _∷_, _++_}
 use lib.Dec.{ltb}
 use lib.ListN.{length, replicate}
 use Rattle.octets.specs.Run.{laid}
-use Rattle.fields.specs.declared.lines.Line.{Line}
-use Rattle.fields.specs.declared.lines.Line.the-variants.{Nothing, Setup, Message, Clock, Alive, End}
-use Rattle.fields.specs.declared.lines.Text.{Text}
+use Rattle.lines.specs.declared.Line.{Line}
+use Rattle.lines.specs.declared.Line.the-variants.{Nothing, Setup, Message, Clock, Alive, End}
+use Rattle.lines.specs.declared.Text.{Text}
 
 -- A number "in decimal", in ASCII, of at most f + 1 digits.
 unfoldable pub decimal : ℕ → ℕ → List ℕ

@@ -4,10 +4,10 @@ use mathlib.Core.Path.{_∙_}
 use native.Mathlib.Omega.{arith}
 use lib.ListN.{length}
 use Rattle.octets.specs.Split.{mapped-length}
-use Rattle.fields.specs.LineLaws.{word-added}
-use Rattle.fields.specs.LineLaws.{digits-room, word-added}
-use Rattle.fields.proofs.lines.word.Statement.{statement}
-use Rattle.fields.proofs.lines.word.Tie as tie
+use Rattle.lines.specs.LineLaws.{word-added}
+use Rattle.lines.specs.LineLaws.{digits-room, word-added}
+use Rattle.lines.proofs.word.Statement.{statement}
+use Rattle.lines.proofs.word.Tie as tie
 
 slice-aggregate-lay : tie.Need-slice-aggregate-lay
 slice-aggregate-lay c = search needs

@@ -3,7 +3,7 @@ ghost use mathlib.Core.Path.{_≡_};
 ghost use mathlib.Core.List.{[], _∷_, _++_};
 ghost use Prim.Native.Nat.{_≤_};
 ghost use Rattle.io.specs.Counts.{Counts};
-ghost use Rattle.fields.specs.Line.{wordOf, lineOf, textOf, added};
+ghost use Rattle.lines.specs.Line.{wordOf, lineOf, textOf, added};
 use octets::lay;
 
 // What is said of a field. 01's numbers stand in it as they are printed.

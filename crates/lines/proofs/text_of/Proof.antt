@@ -2,10 +2,10 @@
 use borrow.Author.Needs.{needs}
 use mathlib.Core.Path.{refl}
 use native.Mathlib.Omega.{arith}
-use Rattle.fields.specs.Line.{lineOf}
-use Rattle.fields.specs.LineLaws.{text-counts, holds-letter, holds-newline}
-use Rattle.fields.proofs.lines.text_of.Statement.{statement}
-use Rattle.fields.proofs.lines.text_of.Tie as tie
+use Rattle.lines.specs.Line.{lineOf}
+use Rattle.lines.specs.LineLaws.{text-counts, holds-letter, holds-newline}
+use Rattle.lines.proofs.text_of.Statement.{statement}
+use Rattle.lines.proofs.text_of.Tie as tie
 
 enum-told : tie.Need-enum-told
 enum-told c = search needs
