@@ -7,8 +7,8 @@ use std::process::{Command, Output, Stdio};
 use second::fields::run;
 use second::text::capture_of;
 
-const LISTING: &str = include_str!("../examples/listing.txt");
-const NIGHT: &str = include_str!("../examples/night.txt");
+const LISTING: &str = include_str!("../../examples/listing.txt");
+const NIGHT: &str = include_str!("../../examples/night.txt");
 
 /// 01, "Program and one full listing".
 const LISTING_LINES: &str = "S 0

@@ -5,13 +5,13 @@ ghost use mathlib.Core.Path.{_≡_};
 ghost use Prim.Native.Nat.{_≤_};
 ghost use lib.ListN.{length};
 use fields::cutting::HEAD;
-use lines::Line;
-use lines::text_of;
 use fields::step::lent;
 use fields::step::turn;
 use fields::step::wanted;
 use libc::STDIN_FILENO;
 use libc::STDOUT_FILENO;
+use lines::Line;
+use lines::text_of;
 use rules::Receiver;
 
 fn main() {
