@@ -7,7 +7,7 @@ use lib.Dec.{eqb}
 use Rattle.octets.specs.Number.{number}
 use Rattle.header.specs.declared.alive.Body.{Body}
 use Rattle.header.specs.AlivePlaces.{AliveField, alivePlace}
-use Rattle.header.specs.AlivePlaces.AliveField.{tmOut, alMode, alProtocol, alVer}
+use Rattle.header.specs.AlivePlaces.AliveField.{alTmOut, alMode, alProtocol, alVer}
 use Rattle.header.specs.Codes.{within}
 
 -- The number at a field's place.
@@ -15,7 +15,7 @@ abbrev pub aliveValue : List ℕ → AliveField → ℕ
 aliveValue s f = number (alivePlace f .1) s (alivePlace f .0)
 
 unfoldable pub bodyOf : List ℕ → Body
-bodyOf s = record { timeout = aliveValue s tmOut; mode = aliveValue s alMode; protocol = aliveValue s alProtocol; ver = aliveValue s alVer }
+bodyOf s = record { timeout = aliveValue s alTmOut; mode = aliveValue s alMode; protocol = aliveValue s alProtocol; ver = aliveValue s alVer }
 
 -- "al_protocol is 4, al_ver 1, al_mode 1 to 3"
 unfoldable pub isBody : Body → Bool

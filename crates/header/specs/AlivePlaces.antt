@@ -10,13 +10,13 @@ use Rattle.header.specs.Places.{Field, rows}
 
 -- The fields of Table 8, al_ipaddr in its two parts.
 pub data AliveField : Type 0 where
-  ndName osName tmOut msgSerno alMode alProtocol alFu1 chgTime ipaddr0 ipaddr1 alVer alFu2 reserved : AliveField
+  ndName osName alTmOut msgSerno alMode alProtocol alFu1 chgTime ipaddr0 ipaddr1 alVer alFu2 reserved : AliveField
 
 -- Where a field starts, and its size.
 abbrev pub alivePlace : AliveField → ℕ × ℕ
 alivePlace ndName = (64, 10)
 alivePlace osName = (74, 10)
-alivePlace tmOut = (84, 4)
+alivePlace alTmOut = (84, 4)
 alivePlace msgSerno = (88, 2)
 alivePlace alMode = (90, 1)
 alivePlace alProtocol = (91, 1)
@@ -38,7 +38,7 @@ aliveRow f x = record { start = alivePlace f .0; size = alivePlace f .1; value =
 -- The alive header's part of the table, with a number for each field,
 abbrev pub bodyRows : (AliveField → ℕ) → List Row
 bodyRows v =
-    aliveRow ndName (v ndName) ∷ aliveRow osName (v osName) ∷ aliveRow tmOut (v tmOut) ∷ aliveRow msgSerno (v msgSerno)
+    aliveRow ndName (v ndName) ∷ aliveRow osName (v osName) ∷ aliveRow alTmOut (v alTmOut) ∷ aliveRow msgSerno (v msgSerno)
     ∷ aliveRow alMode (v alMode) ∷ aliveRow alProtocol (v alProtocol) ∷ aliveRow alFu1 (v alFu1) ∷ aliveRow chgTime (v chgTime)
     ∷ aliveRow ipaddr0 (v ipaddr0) ∷ aliveRow ipaddr1 (v ipaddr1) ∷ aliveRow alVer (v alVer) ∷ aliveRow alFu2 (v alFu2)
     ∷ aliveRow reserved (v reserved) ∷ []

@@ -57,7 +57,11 @@ module _ (w : Receiver) (packet : List ℕ) (h : Head) (b : Body) (a : Address) 
   unfolding aliveAnswer
   signal-refused k e ne = rw (← number-is, ← e, ne-eqb k 0 ne)
 
-  module _ (none : Rows ≡ 0) where
+  -- The number is 0.
+  module _ (number : ℕ) (number-rows : number ≡ Rows) (number-none : number ≡ 0) where
+    none : Rows ≡ 0
+    none = sym number-rows ∙ number-none
+
     facts : (l .valid ≡ true) × (l .at < w .count)
     facts = signal-facts (l .valid) (w .count) (l .at) packet h b none
 

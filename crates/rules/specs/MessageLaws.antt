@@ -153,7 +153,11 @@ module _ (w : Receiver) (storage packet : List ℕ) (h : Head) (a : Address) (l 
   pub pass-refused : (k : ℕ) → k ≡ Rows → (k ≡ 0 → ⊥) → Said w storage packet (refused w k) storage
   pass-refused k e ne = said-early w storage packet k (early-of k e) ne
 
-  module _ (zero-is : Rows ≡ 0) where
+  -- The number before the sender's is 0.
+  module _ (early : ℕ) (early-rows : early ≡ Rows) (early-none : early ≡ 0) where
+    zero-is : Rows ≡ 0
+    zero-is = sym early-rows ∙ early-none
+
     pub pass-facts : Passed (l .valid) (w .count) (l .at) (length storage) packet h
     pass-facts = passed-facts (l .valid) (w .count) (l .at) (length storage) packet h zero-is
 
@@ -180,7 +184,11 @@ module _ (w : Receiver) (storage packet : List ℕ) (h : Head) (a : Address) (l 
       pub pass-late : (k : ℕ) → k ≡ refusedNumber (o .outcome) → (k ≡ 0 → ⊥) → Said w storage packet (refused w k) storage
       pass-late k e ne = said-late w storage packet k early-zero (e ∙ late-of) ne
 
-      module _ (none : refusedNumber (o .outcome) ≡ 0) where
+      -- And so is the sender's.
+      module _ (late : ℕ) (late-refused : late ≡ refusedNumber (o .outcome)) (late-none : late ≡ 0) where
+        none : refusedNumber (o .outcome) ≡ 0
+        none = sym late-refused ∙ late-none
+
         rows-zero : first (senderRows (w .test) (w .n1) (senderAt w (l .at)) h) ≡ 0
         rows-zero = sym late-is ∙ sym late-of ∙ none
 

@@ -1,5 +1,4 @@
 -- One pass over the table, the judge, and what an alive signal does. Assumes nothing.
-use mathlib.Core.Path.{sym, _∙_}
 use denote.Ref.{now}
 use Rattle.rules.specs.AliveLaws.{signal-refused, signal-place, signal-noted}
 use Rattle.rules.specs.Message.{withSender}
@@ -42,7 +41,7 @@ element-copy-out-s c =
     let l = k .before in
     let head = l .before .before in
     let a = head .before .before .before .args in
-    signal-place (a .t1) (now (a .packet)) _ _ _ _ (head .before .read-head .ensures) (head .read-body .ensures) (l .before .source .ensures) (l .look .ensures) (sym (k .signal-number .ensures) ∙ c .if1 .left)
+    signal-place (a .t1) (now (a .packet)) _ _ _ _ (head .before .read-head .ensures) (head .read-body .ensures) (l .before .source .ensures) (l .look .ensures) _ (k .signal-number .ensures) (c .if1 .left)
 
 heard-by-requires : tie.Need-heard-by-requires
 heard-by-requires c κs = search needs
@@ -59,7 +58,7 @@ element-set-from-next c =
     let l = k .before in
     let head = l .before .before in
     let a = head .before .before .before .args in
-    signal-place (a .t1) (now (a .packet)) _ _ _ _ (head .before .read-head .ensures) (head .read-body .ensures) (l .before .source .ensures) (l .look .ensures) (sym (k .signal-number .ensures) ∙ c .before .before .if1 .left)
+    signal-place (a .t1) (now (a .packet)) _ _ _ _ (head .before .read-head .ensures) (head .read-body .ensures) (l .before .source .ensures) (l .look .ensures) _ (k .signal-number .ensures) (c .before .before .if1 .left)
 
 returns-2 : tie.Need-returns-2
 unfolding withSender
@@ -68,7 +67,7 @@ returns-2 c =
     let l = k .before in
     let head = l .before .before in
     let a = head .before .before .before .args in
-    rw (c .heard-by .ensures) (signal-noted (a .t1) (now (a .packet)) _ _ _ _ (head .before .read-head .ensures) (head .read-body .ensures) (l .before .source .ensures) (l .look .ensures) (sym (k .signal-number .ensures) ∙ c .before .before .if1 .left))
+    rw (c .heard-by .ensures) (signal-noted (a .t1) (now (a .packet)) _ _ _ _ (head .before .read-head .ensures) (head .read-body .ensures) (l .before .source .ensures) (l .look .ensures) _ (k .signal-number .ensures) (c .before .before .if1 .left))
 
 pub alive-spec : {M : Type 1} → statement M
 alive-spec =

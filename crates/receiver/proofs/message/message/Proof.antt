@@ -1,5 +1,4 @@
 -- One pass over the table, two judges, and what an admitted PDU does. Assumes nothing.
-use mathlib.Core.Path.{sym, _∙_}
 use native.Mathlib.Omega.{arith}
 use denote.Ref.{now}
 use Rattle.rules.specs.MessageLaws.{pass-refused, pass-facts, pass-place, pass-late, pass-admitted, pass-taken}
@@ -41,7 +40,7 @@ element-copy-out-s c =
     let l = k .before in
     let head = l .before .before in
     let a = head .before .before .before .args in
-    pass-place (a .t1) (now (a .storage)) (now (a .packet)) _ _ _ (head .read-head .ensures) (l .before .source .ensures) (l .look .ensures) (sym (k .packet-number .ensures) ∙ c .if1 .left)
+    pass-place (a .t1) (now (a .storage)) (now (a .packet)) _ _ _ (head .read-head .ensures) (l .before .source .ensures) (l .look .ensures) _ (k .packet-number .ensures) (c .if1 .left)
 
 admit-requires : tie.Need-admit-requires
 admit-requires c κs = search needs
@@ -56,7 +55,7 @@ returns-2 c =
     let l = k .before in
     let head = l .before .before in
     let a = head .before .before .before .args in
-    pass-late (a .t1) (now (a .storage)) (now (a .packet)) _ _ _ (head .read-head .ensures) (l .before .source .ensures) (l .look .ensures) (sym (k .packet-number .ensures) ∙ c .before .before .before .before .if1 .left) _ (c .before .before .admit .ensures) _ (c .before .refused-number .ensures) (c .if2 .taken)
+    pass-late (a .t1) (now (a .storage)) (now (a .packet)) _ _ _ (head .read-head .ensures) (l .before .source .ensures) (l .look .ensures) _ (k .packet-number .ensures) (c .before .before .before .before .if1 .left) _ (c .before .before .admit .ensures) _ (c .before .refused-number .ensures) (c .if2 .taken)
 
 store-requires : tie.Need-store-requires
 store-requires c κs =
@@ -64,11 +63,11 @@ store-requires c κs =
     let l = k .before in
     let head = l .before .before in
     let a = head .before .before .before .args in
-    let z = (sym (k .packet-number .ensures) ∙ c .before .before .before .before .before .if1 .left) in
-    let none = sym (c .before .before .refused-number .ensures) ∙ c .before .if2 .left in (
-      pass-place (a .t1) (now (a .storage)) (now (a .packet)) _ _ _ (head .read-head .ensures) (l .before .source .ensures) (l .look .ensures) z,
-      pass-admitted (a .t1) (now (a .storage)) (now (a .packet)) _ _ _ (head .read-head .ensures) (l .before .source .ensures) (l .look .ensures) z _ (c .before .before .before .admit .ensures) none .cut-possible,
-      pass-facts (a .t1) (now (a .storage)) (now (a .packet)) _ _ _ (head .read-head .ensures) (l .before .source .ensures) (l .look .ensures) z .size,
+    let z = c .before .before .before .before .before .if1 .left in
+    let none = c .before .if2 .left in (
+      pass-place (a .t1) (now (a .storage)) (now (a .packet)) _ _ _ (head .read-head .ensures) (l .before .source .ensures) (l .look .ensures) _ (k .packet-number .ensures) z,
+      pass-admitted (a .t1) (now (a .storage)) (now (a .packet)) _ _ _ (head .read-head .ensures) (l .before .source .ensures) (l .look .ensures) _ (k .packet-number .ensures) z _ (c .before .before .before .admit .ensures) _ (c .before .before .refused-number .ensures) none .cut-possible,
+      pass-facts (a .t1) (now (a .storage)) (now (a .packet)) _ _ _ (head .read-head .ensures) (l .before .source .ensures) (l .look .ensures) _ (k .packet-number .ensures) z .size,
     )
 
 where-to-requires : tie.Need-where-to-requires
@@ -77,7 +76,7 @@ where-to-requires c κs =
     let l = k .before in
     let head = l .before .before in
     let a = head .before .before .before .args in
-    pass-place (a .t1) (now (a .storage)) (now (a .packet)) _ _ _ (head .read-head .ensures) (l .before .source .ensures) (l .look .ensures) (sym (k .packet-number .ensures) ∙ c .before .before .before .before .before .before .before .before .before .before .if1 .left)
+    pass-place (a .t1) (now (a .storage)) (now (a .packet)) _ _ _ (head .read-head .ensures) (l .before .source .ensures) (l .look .ensures) _ (k .packet-number .ensures) (c .before .before .before .before .before .before .before .before .before .before .if1 .left)
 
 cast-next : tie.Need-cast-next
 cast-next c =
@@ -85,7 +84,7 @@ cast-next c =
     let l = k .before in
     let head = l .before .before in
     let a = head .before .before .before .args in
-    omega (arith, pass-place (a .t1) (now (a .storage)) (now (a .packet)) _ _ _ (head .read-head .ensures) (l .before .source .ensures) (l .look .ensures) (sym (k .packet-number .ensures) ∙ c .before .before .before .before .before .before .before .before .before .before .before .if1 .left))
+    omega (arith, pass-place (a .t1) (now (a .storage)) (now (a .packet)) _ _ _ (head .read-head .ensures) (l .before .source .ensures) (l .look .ensures) _ (k .packet-number .ensures) (c .before .before .before .before .before .before .before .before .before .before .before .if1 .left))
 
 mul-next : tie.Need-mul-next
 mul-next c =
@@ -93,7 +92,7 @@ mul-next c =
     let l = k .before in
     let head = l .before .before in
     let a = head .before .before .before .args in
-    omega (arith, pass-place (a .t1) (now (a .storage)) (now (a .packet)) _ _ _ (head .read-head .ensures) (l .before .source .ensures) (l .look .ensures) (sym (k .packet-number .ensures) ∙ c .before .before .before .before .before .before .before .before .before .before .before .if1 .left))
+    omega (arith, pass-place (a .t1) (now (a .storage)) (now (a .packet)) _ _ _ (head .read-head .ensures) (l .before .source .ensures) (l .look .ensures) _ (k .packet-number .ensures) (c .before .before .before .before .before .before .before .before .before .before .before .if1 .left))
 
 element-set-from-next : tie.Need-element-set-from-next
 element-set-from-next c =
@@ -101,7 +100,7 @@ element-set-from-next c =
     let l = k .before in
     let head = l .before .before in
     let a = head .before .before .before .args in
-    pass-place (a .t1) (now (a .storage)) (now (a .packet)) _ _ _ (head .read-head .ensures) (l .before .source .ensures) (l .look .ensures) (sym (k .packet-number .ensures) ∙ c .before .before .before .before .before .before .before .before .before .before .before .if1 .left)
+    pass-place (a .t1) (now (a .storage)) (now (a .packet)) _ _ _ (head .read-head .ensures) (l .before .source .ensures) (l .look .ensures) _ (k .packet-number .ensures) (c .before .before .before .before .before .before .before .before .before .before .before .if1 .left)
 
 same-length : tie.Need-same-length
 same-length c = search needs
@@ -113,10 +112,10 @@ returns-3 c =
     let l = k .before in
     let head = l .before .before in
     let a = head .before .before .before .args in
-    let z = (sym (k .packet-number .ensures) ∙ c .before .before .before .before .before .before .before .before .before .before .before .if1 .left) in
+    let z = c .before .before .before .before .before .before .before .before .before .before .before .if1 .left in
     let late = c .before .before .before .before .before .before .before in
-    let none = sym (late .before .refused-number .ensures) ∙ late .if2 .left in
-    pass-taken (a .t1) (now (a .storage)) (now (a .packet)) _ _ _ (head .read-head .ensures) (l .before .source .ensures) (l .look .ensures) z _ (late .before .before .admit .ensures) none _ _ (c .where-to .ensures) (c .before .before .before .before .before .store .ensures)
+    let none = late .if2 .left in
+    pass-taken (a .t1) (now (a .storage)) (now (a .packet)) _ _ _ (head .read-head .ensures) (l .before .source .ensures) (l .look .ensures) _ (k .packet-number .ensures) z _ (late .before .before .admit .ensures) _ (late .before .refused-number .ensures) none _ _ (c .where-to .ensures) (c .before .before .before .before .before .store .ensures)
 
 pub message-spec : {M : Type 1} → statement M
 message-spec =

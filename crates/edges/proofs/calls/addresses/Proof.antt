@@ -1,0 +1,74 @@
+-- Each turn fills one place of the table. Assumes nothing.
+use Prim.Native.Nat.{_≤_, _-_}
+use borrow.Author.Needs.{needs}
+use Rattle.edges.proofs.calls.addresses.Statement.{statement}
+use Rattle.edges.proofs.calls.addresses.Tie as tie
+
+abbrev Inv-loop : tie.InvT-loop
+Inv-loop field node senders₀ i₀ senders i = i ≤ 16
+
+abbrev μ-loop : tie.MeasureT-loop
+μ-loop field node senders₀ i₀ senders i = 16 - i
+
+loop-holds : tie.Need-loop-holds Inv-loop μ-loop
+loop-holds c = search needs
+
+add-address : tie.Need-add-address Inv-loop μ-loop
+add-address c = search needs
+
+cast-address : tie.Need-cast-address Inv-loop μ-loop
+cast-address c = search needs
+
+add-address-2 : tie.Need-add-address-2 Inv-loop μ-loop
+add-address-2 c = search needs
+
+address-requires : tie.Need-address-requires Inv-loop μ-loop
+address-requires c κs = search needs
+
+cast-senders : tie.Need-cast-senders Inv-loop μ-loop
+cast-senders c = search needs
+
+mul-senders : tie.Need-mul-senders Inv-loop μ-loop
+mul-senders c = search needs
+
+array-set-from-senders : tie.Need-array-set-from-senders Inv-loop μ-loop
+array-set-from-senders c = search needs
+
+add-i : tie.Need-add-i Inv-loop μ-loop
+add-i c = search needs
+
+loop-less : tie.Need-loop-less Inv-loop μ-loop
+loop-less c = search needs
+
+loop-again : tie.Need-loop-again Inv-loop μ-loop
+loop-again c = search needs
+
+address-requires-2 : tie.Need-address-requires-2 Inv-loop μ-loop
+address-requires-2 c κs = search needs
+
+array-set-from-senders-2 : tie.Need-array-set-from-senders-2 Inv-loop μ-loop
+array-set-from-senders-2 c = search needs
+
+returns : tie.Need-returns Inv-loop μ-loop
+returns c = search needs
+
+pub addresses-spec : {M : Type 1} → statement M
+addresses-spec =
+    tie.close
+    (tie.spec
+    Inv-loop
+    μ-loop
+    loop-holds
+    add-address
+    cast-address
+    add-address-2
+    address-requires
+    cast-senders
+    mul-senders
+    array-set-from-senders
+    add-i
+    loop-less
+    loop-again
+    address-requires-2
+    array-set-from-senders-2
+    returns)
