@@ -26,8 +26,6 @@ use receiver::part::part;
 use receiver::question::question;
 use rules::Address;
 use rules::Receiver;
-use rules::answers::Answer;
-use rules::answers::Noted;
 use rules::answers::Setup;
 
 // "The storage: 262,144 octets (16 × 16,384)."
@@ -69,7 +67,7 @@ pub(crate) fn call(w: Receiver, storage: &mut Storage, row: &[u8]) -> Receiver {
     match name {
         FRESH => fresh(storage),
         SETUP => setup(storage, row),
-        ALIVE => alive_call(w, signal_of(row)),
+        ALIVE => alive_call(w, signal_of(row), true),
         CLOCK => clock_call(w, nth(row, 0)),
         ASK => ask(w),
         SHOW => show(w),
@@ -79,6 +77,7 @@ pub(crate) fn call(w: Receiver, storage: &mut Storage, row: &[u8]) -> Receiver {
             storage,
             room(w.count, name, row),
             message_of(name, row),
+            true,
         ),
         _ => opened(storage, row),
     }
@@ -129,7 +128,7 @@ fn setup(storage: &mut Storage, row: &[u8]) -> Receiver {
     fill(storage);
     let started = receiver::setup::setup(setup_of(row));
     let call = started.call;
-    call_line(b"S", call);
+    call_line(b'S', call);
     started.state
 }
 
@@ -174,31 +173,34 @@ fn fill(storage: &mut Storage) {
 
 // ---- message calls
 
-// The message call that is lent the first k octets of the storage.
-pub(crate) fn message_call(w: Receiver, storage: &mut [u8], k: usize, pdu: Pdu) -> Receiver {
-    lent_call(w, front_mut(storage, k), pdu)
+// The message call that is lent the first k octets of the storage; with its line, or printing nothing.
+pub(crate) fn message_call(
+    w: Receiver,
+    storage: &mut [u8],
+    k: usize,
+    pdu: Pdu,
+    told: bool,
+) -> Receiver {
+    lent_call(w, front_mut(storage, k), pdu, told)
 }
 
-fn lent_call(w: Receiver, storage: &mut [u8], pdu: Pdu) -> Receiver {
-    let a = joined(w, storage, pdu);
+fn lent_call(w: Receiver, storage: &mut [u8], pdu: Pdu, told: bool) -> Receiver {
     let octets = pdu.octets;
-    let place = a.place;
-    let outcome = a.outcome;
-    let dropped = a.dropped;
-    message_line(
-        outcome,
-        a.held,
-        dropped,
-        part(place, front(&octets, pdu.lent), storage),
-        storage,
-    );
+    let packet = front(&octets, pdu.lent);
+    let a = message(w, storage, packet);
+    if told {
+        let outcome = a.outcome;
+        let dropped = a.dropped;
+        let place = a.place;
+        message_line(
+            outcome,
+            a.held,
+            dropped,
+            part(place, packet, storage),
+            storage,
+        );
+    }
     a.state
-}
-
-// The message call without its line.
-pub(crate) fn joined(w: Receiver, storage: &mut [u8], pdu: Pdu) -> Answer {
-    let octets = pdu.octets;
-    message(w, storage, front(&octets, pdu.lent))
 }
 
 // The first k octets of a slice, all of them where it has no more.
@@ -206,23 +208,20 @@ fn front(s: &[u8], k: usize) -> &[u8] {
     if k < s.len() { &s[0..k] } else { s }
 }
 
-pub(crate) fn front_mut(s: &mut [u8], k: usize) -> &mut [u8] {
+fn front_mut(s: &mut [u8], k: usize) -> &mut [u8] {
     if k < s.len() { &mut s[0..k] } else { s }
 }
 
 // ---- the others
 
-pub(crate) fn alive_call(w: Receiver, pdu: Pdu) -> Receiver {
-    let noted = heard(w, pdu);
-    let call = noted.call;
-    call_line(b"A", call);
-    noted.state
-}
-
-// The alive call without its line.
-pub(crate) fn heard(w: Receiver, pdu: Pdu) -> Noted {
+pub(crate) fn alive_call(w: Receiver, pdu: Pdu, told: bool) -> Receiver {
     let octets = pdu.octets;
-    alive::alive(w, front(&octets, pdu.lent))
+    let noted = alive::alive(w, front(&octets, pdu.lent));
+    if told {
+        let call = noted.call;
+        call_line(b'A', call);
+    }
+    noted.state
 }
 
 pub(crate) fn clock_call(w: Receiver, ms: u64) -> Receiver {

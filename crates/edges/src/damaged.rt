@@ -7,9 +7,6 @@ use crate::calls::alive_call;
 use crate::calls::ask;
 use crate::calls::clock_call;
 use crate::calls::fresh;
-use crate::calls::front_mut;
-use crate::calls::heard;
-use crate::calls::joined;
 use crate::calls::message_call;
 use crate::pdu::alive_pdu;
 use crate::pdu::piece_pdu;
@@ -27,29 +24,22 @@ use rules::Receiver;
 use rules::Sender;
 
 pub(crate) fn damaged(storage: &mut Storage, row: &[u8]) -> Receiver {
-    let line = read1(row, 8);
     let w = before(storage);
-    match line {
-        b'W' => four_calls(with_settings(w, row), storage, 32_768),
-        b'w' => four_calls(with_sender(w, row), storage, 32_768),
-        _ => four_calls(without_senders(row), storage, 0),
-    }
+    let line = read1(row, 8);
+    four_calls(changed(w, line, row), storage, room(line))
 }
 
-// "then makes, printing nothing, .."
+// "makes, printing nothing," a clock call, an alive call and a message call
 fn before(storage: &mut Storage) -> Receiver {
-    let w = fresh(storage);
-    let later = clock::clock(w, 1_000).state;
-    let noted = heard(later, alive_pdu(b"alive(1, 7, 1, 60)"));
-    opened(noted.state, storage)
-}
-
-fn opened(w: Receiver, storage: &mut [u8]) -> Receiver {
-    joined(
-        w,
-        front_mut(storage, 32_768),
+    let w = clock::clock(fresh(storage), 1_000).state;
+    let v = alive_call(w, alive_pdu(b"alive(1, 7, 1, 60)"), false);
+    message_call(
+        v,
+        storage,
+        32_768,
         piece_pdu(b"piece(1, 7, 5, 100, 1, 4500, 1332, 2)"),
-    ).state
+        false,
+    )
 }
 
 // "makes these four calls, one after the other on what the one before left, printing P, A, C, Q"
@@ -59,10 +49,23 @@ fn four_calls(mut w: Receiver, storage: &mut Storage, k: usize) -> Receiver {
         storage,
         k,
         piece_pdu(b"piece(1, 7, 5, 100, 1, 4500, 1332, 1)"),
+        true,
     );
-    w = alive_call(w, alive_pdu(b"alive(1, 7, 1, 60)"));
-    w = clock_call(w, 15_999);
-    ask(w)
+    w = alive_call(w, alive_pdu(b"alive(1, 7, 1, 60)"), true);
+    ask(clock_call(w, 15_999))
+}
+
+// "exactly 32,768 octets of storage in 8.1 to 8.3, whatever the count says, and none in 8.4"
+fn room(line: u8) -> usize {
+    if line == b'n' { 0 } else { 32_768 }
+}
+
+fn changed(w: Receiver, line: u8, row: &[u8]) -> Receiver {
+    match line {
+        b'W' => with_settings(w, row),
+        b'w' => with_sender(w, row),
+        _ => without_senders(row),
+    }
 }
 
 fn with_settings(mut w: Receiver, row: &[u8]) -> Receiver {

@@ -9,16 +9,22 @@ use rules::answers::Outcome;
 // "the title stands there as on this page"
 pub(crate) fn title(row: &[u8]) {
     io::write_all(1, row);
-    io::write_all(1, b"\n");
+    end();
 }
 
 // The line of setup, S, or of an alive call, A.
-pub(crate) fn call_line(letter: &[u8], call: Call) {
-    line(letter, &[call_number(call)]);
+pub(crate) fn call_line(letter: u8, call: Call) {
+    begin(letter);
+    put(call_number(call));
+    end();
 }
 
 pub(crate) fn clock_line(call: Call, dropped: u16, dead: u16) {
-    line(b"C", &[call_number(call), dropped as u64, dead as u64]);
+    begin(b'C');
+    put(call_number(call));
+    put(dropped as u64);
+    put(dead as u64);
+    end();
 }
 
 pub(crate) fn question_line(missing: Missing) {
@@ -30,10 +36,12 @@ pub(crate) fn question_line(missing: Missing) {
 }
 
 fn question_numbers(number: u8, open: u8, place: u8, piece: u8) {
-    line(
-        b"Q",
-        &[number as u64, open as u64, place as u64, piece as u64],
-    );
+    begin(b'Q');
+    put(number as u64);
+    put(open as u64);
+    put(place as u64);
+    put(piece as u64);
+    end();
 }
 
 pub(crate) fn message_line(
@@ -43,24 +51,17 @@ pub(crate) fn message_line(
     part: &[u8],
     storage: &[u8],
 ) {
-    put(
-        b"P",
-        &[
-            outcome_number(outcome),
-            verdict_number(outcome),
-            held as u64,
-            part.len() as u64,
-        ],
-    );
-    put(
-        b"",
-        &[
-            skipped_count(outcome),
-            dropped.version.0 as u64,
-            dropped.number.0 as u64,
-        ],
-    );
-    line(b"", &[sum(part), sum(storage)]);
+    begin(b'P');
+    put(outcome_number(outcome));
+    put(verdict_number(outcome));
+    put(held as u64);
+    put(part.len() as u64);
+    put(skipped_count(outcome));
+    put(dropped.version.0 as u64);
+    put(dropped.number.0 as u64);
+    put(sum(part));
+    put(sum(storage));
+    end();
 }
 
 // ---- the state in use
@@ -71,10 +72,13 @@ pub(crate) fn state_lines(w: Receiver) {
 }
 
 fn settings_line(test: bool, n1: u16, t: u32, clock: u64, count: u8) {
-    line(
-        b"W",
-        &[test as u64, n1 as u64, t as u64, clock, count as u64],
-    );
+    begin(b'W');
+    put(test as u64);
+    put(n1 as u64);
+    put(t as u64);
+    put(clock);
+    put(count as u64);
+    end();
 }
 
 fn sender_lines(w: Receiver) {
@@ -108,59 +112,50 @@ fn sender_line(place: u8, s: Sender) {
         s.message.map,
         s.message.stamp,
     );
-    end_heard(s.alive, s.heard.stamp, s.heard.timeout);
+    put_heard(s.alive, s.heard.stamp, s.heard.timeout);
 }
 
 fn put_sender(place: u8, field: u8, node: u16, rv: u32, r: u32, open: bool) {
-    put(
-        b"w",
-        &[
-            place as u64,
-            field as u64,
-            node as u64,
-            rv as u64,
-            r as u64,
-            open as u64,
-        ],
-    );
+    begin(b'w');
+    put(place as u64);
+    put(field as u64);
+    put(node as u64);
+    put(rv as u64);
+    put(r as u64);
+    put(open as u64);
 }
 
 fn put_record(version: u32, number: u32, tcd: u16, n: u16, tbn: u8, u: u16, map: u64, stamp: u64) {
-    put(
-        b"",
-        &[
-            version as u64,
-            number as u64,
-            tcd as u64,
-            n as u64,
-            tbn as u64,
-            u as u64,
-            map,
-            stamp,
-        ],
-    );
+    put(version as u64);
+    put(number as u64);
+    put(tcd as u64);
+    put(n as u64);
+    put(tbn as u64);
+    put(u as u64);
+    put(map);
+    put(stamp);
 }
 
-fn end_heard(alive: bool, stamp: u64, timeout: u32) {
-    line(b"", &[alive as u64, stamp, timeout as u64]);
+fn put_heard(alive: bool, stamp: u64, timeout: u32) {
+    put(alive as u64);
+    put(stamp);
+    put(timeout as u64);
+    end();
 }
 
 // ---- numbers
 
-fn line(letter: &[u8], numbers: &[u64]) {
-    put(letter, numbers);
-    io::write_all(1, b"\n");
+fn begin(letter: u8) {
+    io::write_all(1, &[letter]);
 }
 
-// A letter, and a blank before each number.
-fn put(letter: &[u8], numbers: &[u64]) {
-    io::write_all(1, letter);
-    let mut i = 0;
-    while i < numbers.len() {
-        io::write_all(1, b" ");
-        io::print_decimal(1, numbers[i]);
-        i += 1;
-    }
+fn put(n: u64) {
+    io::write_all(1, b" ");
+    io::print_decimal(1, n);
+}
+
+fn end() {
+    io::write_all(1, b"\n");
 }
 
 fn call_number(call: Call) -> u64 {

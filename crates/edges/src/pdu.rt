@@ -14,9 +14,11 @@ use header::Node;
 use header::SIZE;
 use header::places;
 use header::write_head;
+use octets::from;
+use octets::lay;
 use octets::write1;
-use octets::write2;
 use octets::write4;
+use octets::write8;
 use ring::Number;
 use ring::Version;
 
@@ -198,13 +200,9 @@ pub(crate) fn laid_pdu(pdu: Pdu, row: &[u8]) -> Pdu {
     }
 }
 
-// Lays a number into 1, 2 or 4 octets from a place on, and into none where the size is another.
+// Lays a number into so many octets from a place on, the high octet first.
 fn lay_number(octets: &mut [u8], at: u64, size: u64, value: u64) {
-    let place = at as usize;
-    match size {
-        1 => write1(octets, place, (value % 256) as u8),
-        2 => write2(octets, place, (value % 65_536) as u16),
-        4 => write4(octets, place, (value % 4_294_967_296) as u32),
-        _ => {}
-    }
+    let mut number = [0u8; 8];
+    write8(&mut number, 0, value);
+    lay(octets, at as usize, from(&number, (8 - size % 9) as usize));
 }

@@ -1,5 +1,5 @@
 // The rows of the sections, read from text: each is a call as docs/EDGES.md writes it, a name with its numbers in brackets, or `#` with
-// the title of a section. A row ends with its line or at a semicolon; what stands behind its bracket is a remark.
+// the title of a section. A row ends with its line, or at a semicolon.
 //
 // The sections are text, and not code with a call for each row: to prove one such call takes a fifth of a second, and there are hundreds.
 use crate::calls::Storage;
@@ -51,30 +51,23 @@ pub(crate) fn nth(row: &[u8], k: u8) -> u64 {
     let mut i = 0;
     while i < row.len() {
         let octet = row[i];
-        x = with_digit(x, octet, commas == k);
-        commas = with_comma(commas, octet);
+        if octet == b',' {
+            commas = std::num::wrapping_add_u8(commas, 1);
+        }
+        if commas == k {
+            x = with_digit(x, octet);
+        }
         i += 1;
     }
     x
 }
 
-// The number with one more digit, if this octet is one and stands in that number. No number of a row is above 2^64 - 1.
-fn with_digit(x: u64, octet: u8, here: bool) -> u64 {
-    if here & (b'0' <= octet) & (octet <= b'9') {
-        return std::num::wrapping_add_u64(x % 1_844_674_407_370_955_162 * 10, (octet % 16) as u64);
+// The number with one more digit, if the octet is one. No number of a row is above 2^64 - 1, so nothing wraps.
+fn with_digit(x: u64, octet: u8) -> u64 {
+    if (octet < b'0') | (b'9' < octet) {
+        return x;
     }
-    x
-}
-
-// In the remark behind the bracket the count of commas is 255, which nobody looks for.
-fn with_comma(commas: u8, octet: u8) -> u8 {
-    if octet == b')' {
-        return 255;
-    }
-    if (octet != b',') | (commas == 255) {
-        return commas;
-    }
-    std::num::wrapping_add_u8(commas, 1)
+    std::num::wrapping_add_u64(x % 1_844_674_407_370_955_162 * 10, (octet % 16) as u64)
 }
 
 // The same, of 1, 2 and 4 octets.

@@ -17,11 +17,11 @@ loop-holds c = search needs
 shared-slice-read-octet : tie.Need-shared-slice-read-octet Inv-loop μ-loop
 shared-slice-read-octet c = search needs
 
+wrapping-add-u8-requires : tie.Need-wrapping-add-u8-requires Inv-loop μ-loop
+wrapping-add-u8-requires c κs = search needs
+
 with-digit-requires : tie.Need-with-digit-requires Inv-loop μ-loop
 with-digit-requires c κs = search needs
-
-with-comma-requires : tie.Need-with-comma-requires Inv-loop μ-loop
-with-comma-requires c κs = search needs
 
 add-i : tie.Need-add-i Inv-loop μ-loop
 add-i c = search needs
@@ -43,8 +43,8 @@ nth-spec =
     μ-loop
     loop-holds
     shared-slice-read-octet
+    wrapping-add-u8-requires
     with-digit-requires
-    with-comma-requires
     add-i
     loop-less
     loop-again
