@@ -31,11 +31,6 @@ use rules::answers::Setup;
 // "The storage: 262,144 octets (16 × 16,384)."
 pub(crate) type Storage = [u8; 262_144];
 
-// Whether a call prints its line.
-pub(crate) const TOLD: bool = true;
-
-pub(crate) const QUIET: bool = false;
-
 // The first four octets of each name, in ASCII.
 const FRESH: u32 = 0x66_72_65_73;
 
@@ -66,13 +61,13 @@ const ALIVE_LAID: u32 = 0x5f_6c_61_69;
 
 const ALIVE_SIZED: u32 = 0x5f_73_69_7a;
 
-// Makes the call that a row names. Where it names none, it is a title; so a name that is misspelt is printed.
+// Makes the call that a row names.
 pub(crate) fn call(w: Receiver, storage: &mut Storage, row: &[u8]) -> Receiver {
     let name = read4(row, 0);
     match name {
         FRESH => fresh(storage),
         SETUP => setup(storage, row),
-        ALIVE => alive_call(w, signal_of(row), TOLD),
+        ALIVE => alive_call(w, signal_of(row), true),
         CLOCK => clock_call(w, nth(row, 0)),
         ASK => ask(w),
         SHOW => show(w),
@@ -82,13 +77,13 @@ pub(crate) fn call(w: Receiver, storage: &mut Storage, row: &[u8]) -> Receiver {
             storage,
             room(w.count, name, row),
             message_of(name, row),
-            TOLD,
+            true,
         ),
         _ => opened(storage, row),
     }
 }
 
-// "Every section begins with `fresh()`, after its `#` line."
+// "Every section begins with fresh(), after its # line."
 fn opened(storage: &mut Storage, row: &[u8]) -> Receiver {
     title(row);
     fresh(storage)

@@ -1,9 +1,7 @@
-// Damaged states: docs/EDGES.md, section 8. A row gives one line of the state as it is to be, whole: `damaged_W` the W line, and
-// `damaged_w` the w line of one sender. So the values that the row changes differ from those that stand on the page, and the others
-// do not. `damaged_none` gives the W line of a state without senders.
-use crate::calls::QUIET;
+// Damaged states: docs/EDGES.md, section 8. A row gives a line of the state in use as it is to be, whole:
+// damaged_W(test, n1, t, clock, count), or damaged_w(place, field, ..), by the names of the W and w lines; or
+// damaged_none(test, n1, t), a state without senders. Then come the four calls.
 use crate::calls::Storage;
-use crate::calls::TOLD;
 use crate::calls::address;
 use crate::calls::alive_call;
 use crate::calls::ask;
@@ -34,13 +32,13 @@ pub(crate) fn damaged(storage: &mut Storage, row: &[u8]) -> Receiver {
 // "makes, printing nothing," a clock call, an alive call and a message call
 fn before(storage: &mut Storage) -> Receiver {
     let w = clock::clock(fresh(storage), 1_000).state;
-    let v = alive_call(w, alive_pdu(b"alive(1, 7, 1, 60)"), QUIET);
+    let v = alive_call(w, alive_pdu(b"alive(1, 7, 1, 60)"), false);
     message_call(
         v,
         storage,
         32_768,
         piece_pdu(b"piece(1, 7, 5, 100, 1, 4500, 1332, 2)"),
-        QUIET,
+        false,
     )
 }
 
@@ -51,9 +49,9 @@ fn four_calls(mut w: Receiver, storage: &mut Storage, k: usize) -> Receiver {
         storage,
         k,
         piece_pdu(b"piece(1, 7, 5, 100, 1, 4500, 1332, 1)"),
-        TOLD,
+        true,
     );
-    w = alive_call(w, alive_pdu(b"alive(1, 7, 1, 60)"), TOLD);
+    w = alive_call(w, alive_pdu(b"alive(1, 7, 1, 60)"), true);
     ask(clock_call(w, 15_999))
 }
 
@@ -66,11 +64,10 @@ fn changed(w: Receiver, line: u8, row: &[u8]) -> Receiver {
     match line {
         b'W' => with_settings(w, row),
         b'w' => with_sender(w, row),
-        _ => with_settings(Receiver::empty(), row),
+        _ => without_senders(row),
     }
 }
 
-// damaged_W(test, n1, t, clock, count)
 fn with_settings(mut w: Receiver, row: &[u8]) -> Receiver {
     w.test = nth(row, 0) == 1;
     w.n1 = nth2(row, 1);
@@ -80,7 +77,14 @@ fn with_settings(mut w: Receiver, row: &[u8]) -> Receiver {
     w
 }
 
-// damaged_w(place, field, node, rv, r, open, version, number, tcd, n, tbn, u, map, stamp, alive, heard-stamp, al_tm_out)
+fn without_senders(row: &[u8]) -> Receiver {
+    let mut w = Receiver::empty();
+    w.test = nth(row, 0) == 1;
+    w.n1 = nth2(row, 1);
+    w.t = nth4(row, 2);
+    w
+}
+
 fn with_sender(mut w: Receiver, row: &[u8]) -> Receiver {
     let at = nth1(row, 0) % 16;
     let s = sender_of(row);

@@ -55,10 +55,10 @@ pub(crate) fn cut_and_map_changed(storage: &mut Storage) {
     damaged_w(1, 2, 9, 0, 0, 0, 0, 0, 0, 0, 0, 0, 0, 0, 0, 18446744073709551615, 4294967295)
     damaged_w(2, 1, 7, 5, 0, 1, 0, 0, 0, 0, 0, 0, 0, 0, 1, 18446744073709551615, 0)
     # 8.4 No senders
-    damaged_none(0, 1, 1, 0, 0)
-    damaged_none(1, 1, 1, 0, 0)
-    damaged_none(0, 2, 1, 0, 0)
-    damaged_none(0, 1, 2, 0, 0)
+    damaged_none(0, 1, 1)
+    damaged_none(1, 1, 1)
+    damaged_none(0, 2, 1)
+    damaged_none(0, 1, 2)
     ",
     );
 }

@@ -84,7 +84,7 @@ fn given(field: u8, node: u16, version: u32, number: u32, tcd: u16) -> Given {
     }
 }
 
-// One piece of a message of n octets, all of it lent. No PDU here has as many as 65,536 octets, so the remainders alter nothing.
+// One piece of a message of n octets, all of it lent. No piece is longer than its message, so the remainders alter nothing.
 fn cut_pdu(given: Given, n: u16, u: u16, piece: u8) -> Pdu {
     let length = n as usize;
     let lent = SIZE + piece_length(length, u, piece) % 65_536;
@@ -113,7 +113,7 @@ fn lay_message(octets: &mut [u8; 1_473], start: usize, number: u32) {
     }
 }
 
-// Message octet start + j. No message here has as many as 65,536 octets, so the remainders alter nothing; they keep the sum in range.
+// Message octet start + j. No message is longer than 65,536 octets, so the remainders keep the sum in range and alter nothing.
 fn message_octet(start: usize, j: usize, number: u32) -> u8 {
     let i = start % 65_536 + j % 65_536;
     ((7 * i + i / 256 + (number as usize)) % 256) as u8
