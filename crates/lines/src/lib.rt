@@ -83,13 +83,19 @@ fn one(l: u8, a: u64) -> Text
 fn three(l: u8, a: u64, b: u64, c: u64) -> Text
     ensures { λ r. ⌜ r ≡ textOf ((l ∷ []) ++ wordOf a ++ wordOf b ++ wordOf c ++ (10 ∷ [])) ⌝ }
 {
-    newline(word(word(word(letter(l), a), b), c))
+    newline(three_words(l, a, b, c))
 }
 
 fn four(l: u8, a: u64, b: u64, c: u64, d: u64) -> Text
     ensures { λ r. ⌜ r ≡ textOf ((l ∷ []) ++ wordOf a ++ wordOf b ++ wordOf c ++ wordOf d ++ (10 ∷ [])) ⌝ }
 {
-    newline(word(word(word(word(letter(l), a), b), c), d))
+    newline(word(three_words(l, a, b, c), d))
+}
+
+fn three_words(l: u8, a: u64, b: u64, c: u64) -> Text
+    ensures { λ r. ⌜ (r ≡ textOf ((l ∷ []) ++ wordOf a ++ wordOf b ++ wordOf c)) × (r .length ≤ 64) ⌝ }
+{
+    word(word(word(letter(l), a), b), c)
 }
 
 fn letter(l: u8) -> Text

@@ -1,7 +1,7 @@
 -- Word by word. Assumes nothing.
 use borrow.Author.Needs.{needs}
 use native.Mathlib.Omega.{arith}
-use Rattle.lines.specs.LineLaws.{Holds, holds-letter, holds-word, holds-newline}
+use Rattle.lines.specs.LineLaws.{holds-letter, holds-word, holds-newline}
 use Rattle.lines.proofs.one.Statement.{statement}
 use Rattle.lines.proofs.one.Tie as tie
 

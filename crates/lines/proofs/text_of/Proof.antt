@@ -1,6 +1,5 @@
 -- Each arm is that of the definition. Assumes nothing.
 use borrow.Author.Needs.{needs}
-use mathlib.Core.Path.{refl}
 use native.Mathlib.Omega.{arith}
 use Rattle.lines.specs.Line.{lineOf}
 use Rattle.lines.specs.LineLaws.{text-counts, holds-letter, holds-newline}

@@ -1,8 +1,6 @@
 -- A blank and the digits, laid down behind the text. Assumes nothing.
 use borrow.Author.Needs.{needs}
-use mathlib.Core.Path.{_∙_}
 use native.Mathlib.Omega.{arith}
-use lib.ListN.{length}
 use Rattle.octets.specs.Split.{mapped-length}
 use Rattle.lines.specs.LineLaws.{word-added}
 use Rattle.lines.specs.LineLaws.{digits-room, word-added}
