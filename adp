@@ -1,8 +1,7 @@
 #!/usr/bin/env bash
 # Runs the proved program on a capture and prints its lines:  ./adp CAPTURE     (- is standard input)
 #
-# It is proved and built first where that is needed. It then runs as rt runs programs: with the toolchain's own loader and C
-# library, and under the toolchain's emulator where this machine is no x86-64.
+# It is proved and built first where that is needed, and then runs as rt runs programs (tools/run).
 set -euo pipefail
 here=$(cd "$(dirname "${BASH_SOURCE[0]}")" && pwd)
 
@@ -23,12 +22,6 @@ case $1 in
 esac
 
 command -v rt >/dev/null || fail 2 'rt, the Rattle toolchain, is not on the PATH'
-kit=$(dirname "$(dirname "$(rt doc)")")
-tools=$kit/on/$(uname -m)/toolchain
-loader=$tools/lib/ld-linux-x86-64.so.2
-[ -x "$loader" ] || fail 2 "the toolchain at $kit has no loader for $(uname -m)"
-emulator=$tools/bin/qemu-x86_64
-[ -x "$emulator" ] || emulator=
 
 # Builds the program where it is missing, or older than what it is made of.
 build() {
@@ -37,8 +30,8 @@ build() {
     printf 'adp: proving and building (some minutes the first time)\n' >&2
     mkdir -p "$here/target"
     (cd "$here" && rt check adp >target/adp.log 2>&1 </dev/null) || fail 1 'it is not proved; target/adp.log has what rt said'
+    touch "$program" # rt leaves a program alone that what has changed does not touch
 }
 build
 
-for word in $(compgen -e | grep '^QEMU_' || true); do unset "$word"; done
-exec ${emulator:+"$emulator"} "$loader" --library-path "$tools/lib" "$here/target/bin/adp"
+exec "$here/tools/run" adp

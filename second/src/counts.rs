@@ -3,9 +3,10 @@
 use std::collections::BTreeMap;
 
 /// Reads printed lines, of a run or of the edges, and gives "KIND NUMBER COUNT"
-/// lines, sorted. The kinds are the lines' own letters (A, C, E, P, Q, S) and V
-/// for the verdict of a P line; E, which bears no number, is counted under 0.
-/// Titles and states (#, W, w) answer nothing and are passed over.
+/// lines, sorted. The kinds are the lines' own letters (A, C, E, F, K, P, Q, S)
+/// and V for the verdict of a P line; F is counted under its `next`, E, which
+/// bears no number, under 0. Titles, states, the cutter's octets and parts (#, W,
+/// w, k, R) bear no answer's number and are passed over.
 pub fn counts(lines: &str) -> Result<String, String> {
     let mut counts: BTreeMap<(char, u64), u64> = BTreeMap::new();
     for (at, line) in lines.lines().enumerate() {
@@ -39,6 +40,10 @@ fn kinds_of(line: &str) -> Option<Vec<(char, u64)>> {
         ("Q", [answer, _, _, _]) => Some(vec![('Q', *answer)]),
         ("W", state) if state.len() == 5 => Some(Vec::new()),
         ("w", sender) if sender.len() == 17 => Some(Vec::new()),
+        ("K", [answer, _, _, _]) => Some(vec![('K', *answer)]),
+        ("k", octets) if octets.len() == 64 => Some(Vec::new()),
+        ("R", [_, _]) => Some(Vec::new()),
+        ("F", [next, _, _, _]) => Some(vec![('F', *next)]),
         ("E", []) => Some(vec![('E', 0)]),
         _ => None,
     }
@@ -64,10 +69,28 @@ mod tests {
     }
 
     #[test]
+    fn counts_cutter_and_fields_and_passes_over_octets_and_parts() {
+        let octets = " 170".repeat(64);
+        let lines = format!(
+            "K 0 64 9 7\nk{octets}\nK 23 0 7 9\nR 10 5\nR 0 7\nF 3 2 5 9\nF 0 0 0 7\nF 3 4 0 7\n"
+        );
+        let expected = "F 0 1\nF 3 2\nK 0 1\nK 23 1\n";
+        assert_eq!(counts(&lines).unwrap(), expected);
+    }
+
+    #[test]
     fn tells_the_number_of_a_wrong_line() {
         let runs = ["P 1 1 0", "Q 1", "S", "S x", "", "C 0 0 0 0", "E 1", "S  0"];
         let edges = ["P 1 1 0 0 0 0 0 7", "#", "W 0 16 15000 0", "w 0 1 7", "W"];
-        for wrong in [&runs[..], &edges].concat() {
+        let more = [
+            "K 0 64 9",
+            "k 1 2 3",
+            "R 0",
+            "R 0 7 7",
+            "F 3 2 5",
+            "f 0 0 0 7",
+        ];
+        for wrong in [&runs[..], &edges, &more].concat() {
             let lines = format!("S 0\n{wrong}\n");
             assert!(
                 counts(&lines).unwrap_err().starts_with("line 2:"),

@@ -21,42 +21,63 @@ pub enum Field<'a> {
     Alive(&'a [u8]),
 }
 
-/// What stands at the front of a capture.
+/// What stands at the front of a capture. A whole field is given as it stands
+/// there (tag and contents) and as what it asks for.
 #[derive(Clone, Debug, PartialEq, Eq)]
 pub enum Next<'a> {
     End,
-    BadOrCut,
-    One(Field<'a>, &'a [u8]),
+    Cut,
+    Bad,
+    One {
+        tag: u8,
+        contents: &'a [u8],
+        field: Field<'a>,
+        rest: &'a [u8],
+    },
 }
 
+/// Octets of a field's head: tag and length.
+const FIELD_HEAD: usize = 3;
+
 /// 01: "The program reads tagged fields: tag octet, two-octet length, contents;
-/// its own numbers have the high octet first."
+/// its own numbers have the high octet first." `docs/EDGES.md`: "The head is
+/// judged first: where its 3 octets are there and bad, the field is bad, whether
+/// or not its contents are cut."
 pub fn next_field(capture: &[u8]) -> Next<'_> {
     if capture.is_empty() {
         return Next::End;
     }
-    if capture.len() < 3 {
-        return Next::BadOrCut;
-    }
-    let end = 3 + octets::read(capture, 1, 2) as usize;
-    let Some(contents) = capture.get(3..end) else {
-        return Next::BadOrCut;
+    let Some((head, behind)) = capture.split_at_checked(FIELD_HEAD) else {
+        return Next::Cut;
     };
-    match field_of(capture[0], contents) {
-        Some(field) => Next::One(field, &capture[end..]),
-        None => Next::BadOrCut,
+    let (tag, length) = (head[0], octets::read(head, 1, 2) as usize);
+    let Some(reader) = reader_of(tag, length) else {
+        return Next::Bad;
+    };
+    let Some((contents, rest)) = behind.split_at_checked(length) else {
+        return Next::Cut;
+    };
+    Next::One {
+        tag,
+        contents,
+        field: reader(contents),
+        rest,
     }
 }
 
-/// 01: "Tag 2 message PDU, 3 clock (8 octets), 4 alive PDU. [...] Bad is another
-/// tag, tag 1 not of 10, 13, 16 or 19 octets, tag 3 not of 8; a PDU of any length
-/// goes to its call."
-fn field_of(tag: u8, contents: &[u8]) -> Option<Field<'_>> {
-    match (tag, contents.len()) {
-        (TAG_SETUP, 10 | 13 | 16 | 19) => Some(Field::Setup(setup_of(contents))),
-        (TAG_MESSAGE, _) => Some(Field::Message(contents)),
-        (TAG_CLOCK, 8) => Some(Field::Clock(octets::read(contents, 0, 8))),
-        (TAG_ALIVE, _) => Some(Field::Alive(contents)),
+/// Makes a field of the contents behind its head, all of them.
+type Reader<'a> = fn(&'a [u8]) -> Field<'a>;
+
+/// The reader for a head's contents; None where the head is bad. 01: "Tag 2
+/// message PDU, 3 clock (8 octets), 4 alive PDU. [...] Bad is another tag, tag 1
+/// not of 10, 13, 16 or 19 octets, tag 3 not of 8; a PDU of any length goes to its
+/// call."
+fn reader_of<'a>(tag: u8, length: usize) -> Option<Reader<'a>> {
+    match (tag, length) {
+        (TAG_SETUP, 10 | 13 | 16 | 19) => Some(|contents| Field::Setup(setup_of(contents))),
+        (TAG_MESSAGE, _) => Some(Field::Message),
+        (TAG_CLOCK, 8) => Some(|contents| Field::Clock(octets::read(contents, 0, 8))),
+        (TAG_ALIVE, _) => Some(Field::Alive),
         _ => None,
     }
 }
@@ -137,8 +158,12 @@ pub fn run(capture: &[u8]) -> String {
     loop {
         match next_field(rest) {
             Next::End => return lines,
-            Next::BadOrCut => return lines + "E\n",
-            Next::One(field, behind) => {
+            Next::Cut | Next::Bad => return lines + "E\n",
+            Next::One {
+                field,
+                rest: behind,
+                ..
+            } => {
                 lines += &run.step(&field);
                 lines.push('\n');
                 rest = behind;
@@ -184,22 +209,47 @@ mod tests {
             senders: vec![(1, 7)],
         };
         assert_eq!(field(1, &setup_contents(&expected)).unwrap(), SETUP);
-        assert_eq!(next_field(&SETUP), Next::One(Field::Setup(expected), &[]));
+        assert_eq!(one(&SETUP), (Field::Setup(expected), &[][..]));
+    }
+
+    /// The first field of a capture, and the octets behind it.
+    fn one(capture: &[u8]) -> (Field<'_>, &[u8]) {
+        match next_field(capture) {
+            Next::One { field, rest, .. } => (field, rest),
+            other => panic!("{other:?}"),
+        }
     }
 
     #[test]
     fn fields_follow_one_another() {
         let capture = [3, 0, 8, 0, 0, 0, 0, 0, 0, 3, 0xe8, 2, 0, 1, 0xff, 4, 0, 0];
-        let Next::One(clock, rest) = next_field(&capture) else {
-            panic!("no first field");
-        };
+        let (clock, rest) = one(&capture);
         assert_eq!(clock, Field::Clock(1000));
-        let Next::One(pdu, rest) = next_field(rest) else {
-            panic!("no second field");
-        };
+        let (pdu, rest) = one(rest);
         assert_eq!(pdu, Field::Message(&[0xff]));
-        assert_eq!(next_field(rest), Next::One(Field::Alive(&[]), &[]));
+        assert_eq!(one(rest), (Field::Alive(&[]), &[][..]));
         assert_eq!(run(&capture), "C 0 0 0\nP 12 0 0 0\nA 12\n");
+    }
+
+    #[test]
+    fn a_field_is_cut_bad_or_whole() {
+        assert_eq!(next_field(&[]), Next::End);
+        for cut in [&[2][..], &[9], &[9, 0], &[2, 0, 1], &[1, 0, 10, 7]] {
+            assert_eq!(next_field(cut), Next::Cut, "{cut:?}");
+        }
+        for bad in [&[9, 0, 0][..], &[0, 0, 1, 7], &[1, 0, 0], &[3, 0, 1, 7, 7]] {
+            assert_eq!(next_field(bad), Next::Bad, "{bad:?}");
+        }
+        for bad_and_cut in [&[9, 0, 1][..], &[1, 0, 9], &[3, 0, 9, 7], &[0, 255, 255]] {
+            assert_eq!(next_field(bad_and_cut), Next::Bad, "{bad_and_cut:?}");
+        }
+        let whole = Next::One {
+            tag: 2,
+            contents: &[7],
+            field: Field::Message(&[7]),
+            rest: &[8, 9],
+        };
+        assert_eq!(next_field(&[2, 0, 1, 7, 8, 9]), whole);
     }
 
     #[test]
@@ -213,6 +263,8 @@ mod tests {
         assert_eq!(run(&[0, 0, 0]), "E\n");
         assert_eq!(run(&[5, 0, 0]), "E\n");
         assert_eq!(run(&[255, 0, 0]), "E\n");
+        assert_eq!(run(&[9, 0, 1]), "E\n");
+        assert_eq!(run(&[3, 0, 9, 0]), "E\n");
         assert_eq!(run(&[3, 0, 7, 0, 0, 0, 0, 0, 0, 0]), "E\n");
         assert_eq!(run(&[3, 0, 9, 0, 0, 0, 0, 0, 0, 0, 0, 0]), "E\n");
         let good_then_bad = [&SETUP[..], &[9, 0, 0], &SETUP[..]].concat();

@@ -10,6 +10,7 @@ const USAGE: &str = "usage: second run < capture
        second random SEED COUNT > capture
        second random-cut SEED > capture
        second edges
+       second edges-calls > calls
        second tally < lines
 ";
 
@@ -30,6 +31,7 @@ fn main() -> ExitCode {
             Err(_) => return usage(),
         },
         ["edges"] => output(edges::lines().as_bytes()),
+        ["edges-calls"] => output(&edges::calls_as_fields()),
         ["tally"] => input_text()
             .and_then(|lines| counts::counts(&lines))
             .and_then(|counts| output(counts.as_bytes())),

@@ -74,7 +74,7 @@ impl Author {
             return;
         }
         let octets = field(tag, contents).expect("scenes write short fields");
-        let Next::One(good, _) = next_field(&octets) else {
+        let Next::One { field: good, .. } = next_field(&octets) else {
             panic!("scenes write good fields");
         };
         self.run.step(&good);

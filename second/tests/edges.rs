@@ -807,7 +807,474 @@ fn sums_of_damaged_states() {
     assert_eq!(nobody, [(14, 7, 7), (9, 7, 7), (9, 7, 7), (9, 7, 7)]);
 }
 
-/// The page's titles and no others, in its order; as many lines as it says.
+// Section 9.2: the last of c senders, c:(6 + c), at place c - 1.
+
+/// Heard and opened at ms 0 of 15 seconds and T 15000, then opened at ms 14999.
+fn lines_with_senders(c: usize) -> Vec<String> {
+    let map = 1 << (c - 1);
+    let mut expected: Vec<String> = Vec::new();
+    expected.extend(["S 0", "P 0 0 1 0 0 0 0", "P 14 0 0 0 0 0 0"].map(String::from));
+    let storage = if c < 16 { 2 } else { 1 };
+    expected.extend((0..storage).map(|_| "P 11 0 0 0 0 0 0".into()));
+    expected.push(format!("Q 0 1 {} 1", c - 1));
+    expected.extend(["A 0", "C 0 0 0", "P 1 1 0 300 0 0 0", "P 0 0 1 0 0 0 0"].map(String::from));
+    expected.push(format!("C 0 0 {map}"));
+    expected.push(format!("C 0 {map} 0"));
+    expected.push(format!("W 0 16 15000 29999 {c}"));
+    for i in 0..c {
+        let last = if i == c - 1 { "5 100" } else { "0 0" };
+        let nought = "0 0 0 0 0 0 0 0 0 0 0 0";
+        expected.push(format!("w {i} {} {} {last} {nought}", 1 + i, 7 + i));
+    }
+    expected
+}
+
+#[test]
+fn five_to_sixteen_senders() {
+    let expected: Vec<String> = (5..=16).flat_map(lines_with_senders).collect();
+    expect("9.2 Five to sixteen senders", &expected.join("\n"));
+}
+
+/// (number, part-sum, storage-sum) of each message call with c senders.
+fn sums_with_senders(c: usize) -> Vec<(u64, u64, u64)> {
+    let mut kept = Kept::new(c);
+    kept.bring([c - 1, 100, 300, 256, 2]);
+    let opened = sum(&kept.storage);
+    let short = sum(&kept.storage[..c * AREA - 1]);
+    let mut expected = vec![(0, 7, opened), (14, 7, opened), (11, 7, short)];
+    if c < 16 {
+        let long = [&kept.storage[..], &[170]].concat();
+        expected.push((11, 7, sum(&long)));
+    }
+    let whole = kept.bring([c - 1, 100, 300, 256, 1]);
+    expected.push((1, sum(&whole), sum(&kept.storage)));
+    kept.bring([c - 1, 101, 300, 256, 1]);
+    expected.push((0, 7, sum(&kept.storage)));
+    expected
+}
+
+#[test]
+fn sums_of_five_to_sixteen_senders() {
+    let expected: Vec<(u64, u64, u64)> = (5..=16).flat_map(sums_with_senders).collect();
+    assert_eq!(sums("9.2 Five to sixteen senders"), expected);
+}
+
+// Section 10: the cutter.
+
+/// A K line's number, length and two sums, and the octets of its k line.
+#[derive(Debug, PartialEq)]
+struct CutLine {
+    numbers: [u64; 4],
+    header: Option<Vec<u8>>,
+}
+
+fn cut_lines(title: &str) -> Vec<CutLine> {
+    let mut rows: Vec<CutLine> = Vec::new();
+    for line in section(title) {
+        let (kind, rest) = line.split_once(' ').unwrap();
+        let numbers: Vec<u64> = rest.split(' ').map(|word| word.parse().unwrap()).collect();
+        if kind == "K" {
+            rows.push(CutLine {
+                numbers: numbers.try_into().unwrap(),
+                header: None,
+            });
+        } else {
+            let octets = numbers.iter().map(|octet| *octet as u8).collect();
+            rows.last_mut().unwrap().header = Some(octets);
+        }
+    }
+    rows
+}
+
+/// "23 | cutter: [...]", and the buffer is as it was.
+fn refused(buffer: usize) -> CutLine {
+    CutLine {
+        numbers: [23, 0, 7, sum(&vec![170; buffer])],
+        header: None,
+    }
+}
+
+/// Written: the header, message octets `from` to `to`, and the rest of the buffer
+/// as it was.
+fn written(header: &[u8], from: usize, to: usize, buffer: usize) -> CutLine {
+    let pdu = [header, &message(100, from, to)].concat();
+    let rest = vec![170; buffer - pdu.len()];
+    CutLine {
+        numbers: [0, pdu.len() as u64, sum(&pdu), sum(&rest)],
+        header: Some(header.to_vec()),
+    }
+}
+
+/// The header of a PDU whose nine values are the page's: ML at 4, CBN, TBN and
+/// BSIZE at 56.
+fn header(ml: u16, cbn: u8, tbn: u8, bsize: u16) -> Vec<u8> {
+    let mut octets = vec![78, 85, 88, 77, 0, 0];
+    octets.extend(ml.to_be_bytes());
+    octets.extend([
+        0, 1, 0, 7, 0, 1, 0, 1, 0, 0, 0, 5, 0, 0, 0, 100, 128, 0, 0, 0,
+    ]);
+    octets.extend([0; 12]);
+    octets.extend([0, 1, 0, 0, 0, 0, 0, 0, 0, 0, 0, 0, 0, 0, 1, 0, cbn, tbn]);
+    octets.extend(bsize.to_be_bytes());
+    octets.extend([0; 4]);
+    octets
+}
+
+/// (n, u, TBN, octets of the last piece), by "n / u rounded up" and "the last
+/// carries the rest": 16384 - 11 x 1396 = 1028, 4500 - 3 x 1396 = 312.
+const MESSAGES: [[usize; 4]; 13] = [
+    [0, 256, 1, 0],
+    [1, 256, 1, 1],
+    [255, 256, 1, 255],
+    [256, 256, 1, 256],
+    [257, 256, 2, 1],
+    [512, 256, 2, 256],
+    [513, 256, 3, 1],
+    [1_396, 1_396, 1, 1_396],
+    [1_397, 1_396, 2, 1],
+    [4_500, 1_332, 4, 504],
+    [4_500, 1_396, 4, 312],
+    [16_384, 1_396, 12, 1_028],
+    [16_384, 256, 64, 256],
+];
+
+/// What cut(n, u, piece, buffer) writes.
+fn piece_written([n, u, tbn, last]: [usize; 4], piece: usize, buffer: usize) -> CutLine {
+    let from = (piece - 1) * u;
+    let p = if piece < tbn { u } else { last };
+    let (ml, bsize) = ((n + 64) as u16, (p + 64) as u16);
+    let header = header(ml, piece as u8, tbn as u8, bsize);
+    written(&header, from, from + p, buffer)
+}
+
+#[test]
+fn each_pdu_of_the_cutter() {
+    let mut expected = Vec::new();
+    for cut in MESSAGES {
+        expected.push(refused(1_473));
+        expected.extend((1..=cut[2]).map(|piece| piece_written(cut, piece, 1_473)));
+        expected.push(refused(1_473));
+    }
+    assert_eq!(expected.len(), 124);
+    assert_eq!(cut_lines("10.1 Each PDU"), expected);
+}
+
+/// All 64 octets, place by place. 4564 is 17 x 256 + 212, 568 is 2 x 256 + 56.
+const LAST_OF_FIGURE_54: [u8; 64] = [
+    78, 85, 88, 77, // H_TYPE
+    0, 0, 17, 212, // ML
+    0, 1, 0, 7, // domain, data field, node
+    0, 1, 0, 1, // DA
+    0, 0, 0, 5, // V_SEQ
+    0, 0, 0, 100, // SEQ
+    128, 0, 0, 0, // M_CTL
+    0, 0, 0, 0, 0, 0, 0, 0, 0, 0, 0, 0, // INQ_ID
+    0, 1, 0, 0, // TCD, VER
+    0, 0, 0, 0, 0, 0, 0, 0, // GTID
+    0, 0, 1, 0, // MODE, PVER, PRI
+    4, 4, 2, 56, // CBN, TBN, BSIZE
+    0, 0, 0, 0, // FUI
+];
+
+/// 16448 is 64 x 256 + 64, 1092 is 4 x 256 + 68.
+const LAST_OF_TWELVE: [u8; 64] = [
+    78, 85, 88, 77, 0, 0, 64, 64, 0, 1, 0, 7, 0, 1, 0, 1, // to DA
+    0, 0, 0, 5, 0, 0, 0, 100, 128, 0, 0, 0, 0, 0, 0, 0, // V_SEQ, SEQ, M_CTL
+    0, 0, 0, 0, 0, 0, 0, 0, 0, 1, 0, 0, 0, 0, 0, 0, // INQ_ID's rest, TCD
+    0, 0, 0, 0, 0, 0, 1, 0, 12, 12, 4, 68, 0, 0, 0, 0, // MODE, PVER, PRI, ...
+];
+
+/// cut_with(TCD, 4660): 18 x 256 + 52. One piece of 10 octets.
+const OF_ONE_PIECE: [u8; 64] = [
+    78, 85, 88, 77, 0, 0, 0, 74, 0, 1, 0, 7, 0, 1, 0, 1, // to DA
+    0, 0, 0, 5, 0, 0, 0, 100, 128, 0, 0, 0, 0, 0, 0, 0, // V_SEQ, SEQ, M_CTL
+    0, 0, 0, 0, 0, 0, 0, 0, 18, 52, 0, 0, 0, 0, 0, 0, // INQ_ID's rest, TCD
+    0, 0, 0, 0, 0, 0, 1, 0, 1, 1, 0, 74, 0, 0, 0, 0, // MODE, PVER, PRI, ...
+];
+
+#[test]
+fn whole_headers_by_hand() {
+    let each = cut_lines("10.1 Each PDU");
+    // Before (4500, 1332): 9 messages of 14 pieces and 18 refusals.
+    let four = written(&LAST_OF_FIGURE_54, 3_996, 4_500, 1_473);
+    assert_eq!(each[14 + 18 + 4], four);
+    // Then twice 4 pieces and 2 refusals.
+    let twelve = written(&LAST_OF_TWELVE, 15_356, 16_384, 1_473);
+    assert_eq!(each[32 + 12 + 12], twelve);
+    let values = cut_lines("10.3 Header values");
+    // Before TCD: 3 + 7 + 4 + 4 + 6 + 4 rows.
+    assert_eq!(values[28 + 2], written(&OF_ONE_PIECE, 0, 10, 128));
+}
+
+/// Rows of 10.2 that are written, from 1: the cut, the piece, the buffer. All
+/// others meet 23.
+const WITHIN_LIMITS: [(usize, [usize; 4], usize, usize); 15] = [
+    (1, [16_384, 1_396, 12, 1_028], 12, 1_473),
+    (7, [10, 256, 1, 10], 1, 1_473),
+    (8, [10, 1_396, 1, 10], 1, 1_473),
+    (16, [4_500, 1_332, 4, 504], 4, 1_473),
+    (19, [16_384, 256, 64, 256], 64, 1_473),
+    (22, [0, 256, 1, 0], 1, 64),
+    (23, [0, 256, 1, 0], 1, 65),
+    (27, [10, 256, 1, 10], 1, 74),
+    (28, [10, 256, 1, 10], 1, 75),
+    (30, [4_500, 1_332, 4, 504], 1, 1_396),
+    (31, [4_500, 1_332, 4, 504], 1, 1_397),
+    (33, [4_500, 1_332, 4, 504], 4, 568),
+    (34, [4_500, 1_332, 4, 504], 4, 569),
+    (36, [16_384, 1_396, 12, 1_028], 1, 1_460),
+    (37, [16_384, 1_396, 12, 1_028], 1, 1_461),
+];
+
+/// The rows refused for their buffer alone, and its length.
+const SHORT: [(usize, usize); 7] = [
+    (21, 63),
+    (24, 0),
+    (25, 64),
+    (26, 73),
+    (29, 1_395),
+    (32, 567),
+    (35, 1_459),
+];
+
+#[test]
+fn limits_of_the_cut() {
+    let rows = cut_lines("10.2 Limits of the cut");
+    assert_eq!(rows.len(), 37);
+    for (row, line) in (1..).zip(rows) {
+        let within = WITHIN_LIMITS.iter().find(|within| within.0 == row);
+        let short = SHORT.iter().find(|short| short.0 == row);
+        let expected = match (within, short) {
+            (Some((_, cut, piece, buffer)), _) => piece_written(*cut, *piece, *buffer),
+            (None, Some((_, buffer))) => refused(*buffer),
+            (None, None) => refused(1_473),
+        };
+        assert_eq!(line, expected, "row {row}");
+    }
+}
+
+/// Where a value stands, how many octets it takes, and the page's values in its
+/// order, each with whether it is written or meets 23.
+type Place = (usize, usize, &'static [(u32, bool)]);
+
+const ANY: [(u32, bool); 4] = [
+    (0, true),
+    (1, true),
+    (4_294_967_295, true),
+    (305_419_896, true),
+];
+
+const HEADER_VALUES: [Place; 9] = [
+    // "Data field numbers (1 to 255) and node numbers (1 to 4,095)"
+    (9, 1, &[(0, false), (1, true), (255, true)]),
+    (
+        10,
+        2,
+        &[
+            (0, false),
+            (1, true),
+            (255, true),
+            (256, true),
+            (4_095, true),
+            (4_096, false),
+            (65_535, false),
+        ],
+    ),
+    // "The destination address is not examined"; "V_SEQ is any 32-bit number"
+    (12, 4, &ANY),
+    (16, 4, &ANY),
+    // "SEQ is 1 to M"
+    (
+        20,
+        4,
+        &[
+            (0, false),
+            (1, true),
+            (2_147_483_647, true),
+            (2_147_483_648, false),
+            (4_294_967_295, false),
+            (305_419_896, true),
+        ],
+    ),
+    (24, 4, &ANY),
+    // "1 to 59,999 are the user's"; "Messages carry user codes only."
+    (
+        40,
+        2,
+        &[
+            (0, false),
+            (1, true),
+            (4_660, true),
+            (59_999, true),
+            (60_000, false),
+            (60_003, false),
+            (65_534, false),
+            (65_535, false),
+        ],
+    ),
+    // "The two MODE values are those of 5.1."
+    (
+        52,
+        2,
+        &[
+            (0, true),
+            (1, true),
+            (2, false),
+            (256, false),
+            (65_535, false),
+        ],
+    ),
+    // "PRI is 0 to 7"
+    (
+        55,
+        1,
+        &[(0, true), (1, true), (7, true), (8, false), (255, false)],
+    ),
+];
+
+#[test]
+fn header_values_of_the_cutter() {
+    let mut expected = Vec::new();
+    for (at, size, values) in HEADER_VALUES {
+        for (value, right) in values {
+            let mut octets = header(74, 1, 1, 74);
+            octets[at..at + size].copy_from_slice(&value.to_be_bytes()[4 - size..]);
+            expected.push(match right {
+                true => written(&octets, 0, 10, 128),
+                false => refused(128),
+            });
+        }
+    }
+    assert_eq!(expected.len(), 46);
+    assert_eq!(cut_lines("10.3 Header values"), expected);
+}
+
+// Section 11: the part.
+
+/// Rows of 11.1, from 1, that hand over octets; the others hand over none.
+#[test]
+fn parts_of_packet_and_storage() {
+    let ten = message(100, 0, 10);
+    let joined = message(100, 0, 600);
+    let fill = vec![170; AREA];
+    let all = [&fill[..], &joined, &fill[600..]].concat();
+    let mut expected = vec![&[][..]; 24];
+    for (row, part) in [(3, &ten[..]), (4, &ten), (5, &ten[..1])] {
+        expected[row - 1] = part;
+    }
+    for (row, part) in [(9, &joined), (10, &joined), (11, &joined), (15, &all)] {
+        expected[row - 1] = part;
+    }
+    let line = |part: &&[u8]| format!("R {} {}", part.len(), sum(part));
+    let parts: Vec<String> = expected.iter().map(line).collect();
+    assert_eq!((parts[0].as_str(), parts[4].as_str()), ("R 0 7", "R 1 317"));
+    let pieces = "P 0 0 1 0 0 0 0\nP 0 0 2 0 0 0 0\nP 1 1 0 600 0 0 0\n";
+    let title = "11.1 Slices that do not fit";
+    expect(title, &[pieces, &parts.join("\n")].concat());
+}
+
+#[test]
+fn sums_of_the_message_before_the_parts() {
+    let brought = pieces([1, 100, 600, 256], &[1, 2, 3]);
+    expect_sums("11.1 Slices that do not fit", 2, &brought);
+}
+
+// Section 12: fields.
+
+/// A whole field's line: contents octet i is (17 x i + tag) mod 256.
+fn whole(tag: u64, length: u64) -> String {
+    let contents: Vec<u8> = (0..length).map(|i| ((17 * i + tag) % 256) as u8).collect();
+    format!("F 3 {tag} {length} {}", sum(&contents))
+}
+
+const CUT: &str = "F 1 0 0 7";
+const BAD: &str = "F 2 0 0 7";
+
+/// No octet; 1 octet to one less than all; all, and one or two behind them.
+#[test]
+fn fields_cut_at_each_place() {
+    let mut expected: Vec<String> = Vec::new();
+    for (tag, length) in [(1, 10), (1, 19), (2, 0), (2, 5), (3, 8), (4, 3)] {
+        expected.push("F 0 0 0 7".into());
+        expected.extend((1..3 + length).map(|_| CUT.to_string()));
+        expected.extend((0..3).map(|_| whole(tag, length)));
+    }
+    assert_eq!(expected.len(), 81);
+    // 4, 21, 38: 7 x 31 + 4 = 221, x 31 + 21 = 6872, x 31 + 38 = 213070.
+    assert_eq!(expected.last().unwrap(), "F 3 4 3 213070");
+    expect("12.1 Cut at each place", &expected.join("\n"));
+}
+
+/// "Bad is another tag, tag 1 not of 10, 13, 16 or 19 octets, tag 3 not of 8; a
+/// PDU of any length goes to its call." Tag, length, and whether it is good.
+const TAGS_AND_LENGTHS: [(u64, u64, bool); 42] = [
+    (0, 0, false),
+    (0, 10, false),
+    (1, 0, false),
+    (1, 7, false),
+    (1, 9, false),
+    (1, 10, true),
+    (1, 11, false),
+    (1, 12, false),
+    (1, 13, true),
+    (1, 14, false),
+    (1, 15, false),
+    (1, 16, true),
+    (1, 17, false),
+    (1, 18, false),
+    (1, 19, true),
+    (1, 20, false),
+    (1, 22, false),
+    (1, 266, false),
+    (2, 0, true),
+    (2, 1, true),
+    (2, 63, true),
+    (2, 64, true),
+    (2, 1_460, true),
+    (2, 1_461, true),
+    (2, 2_560, true),
+    (2, 65_000, true),
+    (3, 0, false),
+    (3, 7, false),
+    (3, 8, true),
+    (3, 9, false),
+    (3, 264, false),
+    (4, 0, true),
+    (4, 1, true),
+    (4, 127, true),
+    (4, 128, true),
+    (4, 1_472, true),
+    (4, 1_473, true),
+    (4, 65_000, true),
+    (5, 0, false),
+    (5, 8, false),
+    (255, 0, false),
+    (255, 10, false),
+];
+
+/// "where its 3 octets are there and bad, the field is bad, whether or not its
+/// contents are cut": the 3 octets alone are a cut field only where they are good
+/// and contents belong to them.
+#[test]
+fn tags_and_lengths() {
+    let mut expected: Vec<String> = Vec::new();
+    for (tag, length, good) in TAGS_AND_LENGTHS {
+        let all = if good { whole(tag, length) } else { BAD.into() };
+        let cut = good && length > 0;
+        let alone = if cut { CUT.into() } else { all.clone() };
+        expected.extend([all, alone]);
+    }
+    expect("12.2 Tags and lengths", &expected.join("\n"));
+}
+
+/// The number of "1568 lines in all", as it stands on the page.
+fn lines_in_all(page: &str) -> usize {
+    let (before, _) = page.split_once(" lines in all").expect("said on the page");
+    let number = before.rsplit(' ').next().expect("a word");
+    number.parse().expect("a number")
+}
+
+/// The page's titles and no others, in its order, and as many lines as it says.
 #[test]
 fn the_sections_are_the_pages() {
     let page = include_str!("../../docs/EDGES.md");
@@ -820,6 +1287,5 @@ fn the_sections_are_the_pages() {
         .filter(|line| line.starts_with('#'))
         .collect();
     assert_eq!(printed, of_page);
-    let in_all = format!("{} lines in all", lines().lines().count());
-    assert!(page.contains(&in_all), "{in_all}");
+    assert_eq!(lines().lines().count(), lines_in_all(page));
 }

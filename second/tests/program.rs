@@ -112,10 +112,11 @@ fn a_wrong_line_is_told_on_standard_error() {
 
 #[test]
 fn unknown_words_give_the_usage() {
-    let wrong: [&[&str]; 7] = [
+    let wrong: [&[&str]; 8] = [
         &[],
         &["edge"],
         &["edges", "now"],
+        &["edges-calls", "now"],
         &["run", "now"],
         &["random", "1"],
         &["random", "x", "5"],
@@ -137,7 +138,7 @@ fn count_in(tally: &str, kind: &str) -> u64 {
         .unwrap_or(0)
 }
 
-/// 01's numbers, each where it can be given: 23 is the cutter's alone.
+/// 01's numbers, each where it can be given, and each `next` of a field.
 #[test]
 fn edges_then_tally_reach_every_number() {
     let edges = second(&["edges"], b"");
@@ -151,6 +152,8 @@ fn edges_then_tally_reach_every_number() {
         ("A", &[0, 9, 12, 13, 14, 22]),
         ("C", &[0, 9, 21]),
         ("Q", &[0, 9]),
+        ("K", &[0, 23]),
+        ("F", &[0, 1, 2, 3]),
     ];
     let mut reached = 0;
     for (kind, numbers) in kinds {
@@ -161,6 +164,13 @@ fn edges_then_tally_reach_every_number() {
         }
     }
     assert_eq!(lines(&tally).lines().count(), reached);
+}
+
+#[test]
+fn edges_calls_begin_with_the_first_title() {
+    let calls = second(&["edges-calls"], b"");
+    assert_eq!(calls.status.code(), Some(0));
+    assert!(calls.stdout.starts_with(b"#\x00\x091.1 Setups\x00\x38"));
 }
 
 #[test]

@@ -1,41 +1,52 @@
-// Both sides of each edge: makes every call of docs/EDGES.md on the receiver, section by section, and prints its lines.
-mod alive_rows;
+// Both sides of each edge: reads the calls of docs/EDGES.md as fields from standard input, makes each on the proved functions, and
+// prints its lines. The octets of every PDU come from outside, so that nothing here is written by what it tests.
 mod calls;
-mod clock_rows;
-mod cut_rows;
-mod damaged;
-mod damaged_rows;
-mod header_rows;
-mod joining_rows;
-mod lines;
-mod number_rows;
-mod pdu;
-mod rows;
-mod setup_rows;
-mod sixteen_rows;
+mod damage;
+
+ghost use mathlib.Core.Path.{_≡_};
+ghost use Prim.Native.Nat.{_≤_};
+ghost use lib.ListN.{length};
+use calls::HEAD;
+use calls::call;
+use calls::look;
+use io::read_full;
+use libc::STDIN_FILENO;
+use octets::read2;
+use rules::Receiver;
 
 fn main() {
+    // "The storage: 262,144 octets (16 × 16,384)."
     let mut storage = [0u8; 262_144];
-    setup_rows::setup_limits(&mut storage);
-    setup_rows::setup_states(&mut storage);
-    header_rows::header_places(&mut storage);
-    header_rows::header_lengths(&mut storage);
-    header_rows::header_at_other_nodes(&mut storage);
-    cut_rows::cut_rule(&mut storage);
-    cut_rows::cut_rule_last_piece(&mut storage);
-    number_rows::number_check(&mut storage);
-    number_rows::number_check_ends(&mut storage);
-    joining_rows::four_and_twelve_pieces(&mut storage);
-    joining_rows::sixty_four_pieces(&mut storage);
-    joining_rows::drops(&mut storage);
-    joining_rows::unlike_and_unchecked(&mut storage);
-    clock_rows::the_clock(&mut storage);
-    clock_rows::age_of_a_message(&mut storage);
-    clock_rows::age_of_a_signal(&mut storage);
-    alive_rows::alive_places(&mut storage);
-    alive_rows::alive_bodies(&mut storage);
-    alive_rows::alive_and_dead(&mut storage);
-    damaged_rows::one_value_changed(&mut storage);
-    damaged_rows::cut_and_map_changed(&mut storage);
-    sixteen_rows::sixteen_senders(&mut storage);
+    let mut field = [0u8; 65_538];
+    run(&mut storage, &mut field);
+}
+
+// Makes the call of each field.
+fn run(storage: &mut [u8], field: &mut [u8])
+    requires { ⌜ length (now field) ≡ 65538 ⌝ }
+{
+    let mut w = Receiver::empty();
+    // A proved loop has to end, and nothing says that an input does: no run uses these turns up.
+    let mut turns = u64::MAX;
+    while turns > 0 {
+        let read = read_field(field);
+        if read == 0 {
+            return;
+        }
+        look(w, storage, &field[0..read]);
+        w = call(w, storage, &field[0..read]);
+        turns -= 1;
+    }
+}
+
+// Reads the next field to the front of the buffer and answers how many octets it is, 0 at the input's end.
+fn read_field(field: &mut [u8]) -> usize
+    requires { ⌜ length (now field) ≡ 65538 ⌝ }
+    ensures { λ r. ⌜ r ≤ 65538 ⌝ }
+{
+    if read_full(STDIN_FILENO, &mut field[..HEAD]) < HEAD {
+        return 0;
+    }
+    let more = read2(field, 1) as usize;
+    HEAD + read_full(STDIN_FILENO, &mut field[HEAD..HEAD + more])
 }

@@ -5,7 +5,7 @@ use mathlib.Core.List.{List}
 use Prim.Native.Nat.{ℕ, _%_}
 use lib.Dec.{eqb}
 use Rattle.octets.specs.Number.{number}
-use Rattle.header.specs.declared.alive.Body.{Body}
+use Rattle.header.specs.declared.signal.Body.{Body}
 use Rattle.header.specs.AlivePlaces.{AliveField, alivePlace}
 use Rattle.header.specs.AlivePlaces.AliveField.{alTmOut, alMode, alProtocol, alVer}
 use Rattle.header.specs.Codes.{within}

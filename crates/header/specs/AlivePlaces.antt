@@ -44,17 +44,17 @@ bodyRows v =
     ∷ aliveRow reserved (v reserved) ∷ []
 
 -- and behind the ADP header's.
-abbrev pub aliveRows : (Field → ℕ) → (AliveField → ℕ) → List Row
-aliveRows v u = rows v ++ bodyRows u
+abbrev pub headBodyRows : (Field → ℕ) → (AliveField → ℕ) → List Row
+headBodyRows v u = rows v ++ bodyRows u
 
-pub alive-apart : (v : Field → ℕ) (u : AliveField → ℕ) → apart (aliveRows v u) ≡ true
+pub alive-apart : (v : Field → ℕ) (u : AliveField → ℕ) → apart (headBodyRows v u) ≡ true
 unfolding apart apartFrom
 alive-apart v u = refl
 
-pub alive-end : (v : Field → ℕ) (u : AliveField → ℕ) → endsBy aliveSize (aliveRows v u) ≡ true
+pub alive-end : (v : Field → ℕ) (u : AliveField → ℕ) → endsBy aliveSize (headBodyRows v u) ≡ true
 unfolding endsBy
 alive-end v u = refl
 
-pub alive-cover : (v : Field → ℕ) (u : AliveField → ℕ) → covers aliveSize (aliveRows v u) ≡ true
+pub alive-cover : (v : Field → ℕ) (u : AliveField → ℕ) → covers aliveSize (headBodyRows v u) ≡ true
 unfolding covers held
 alive-cover v u = refl

@@ -10,9 +10,9 @@ ghost use Rattle.header.specs.HeadLaws.{addressRows, numberRows, pieceRo
 ghost use Rattle.header.specs.LayoutLaws.{fill};
 ghost use Rattle.header.specs.Places.Field.{inqId};
 
-pub mod alive;
 pub mod codes;
 pub mod places;
+pub mod signal;
 
 use octets::lay;
 use octets::read1;

@@ -17,8 +17,6 @@ use header::codes::is_pri;
 use header::is_fixed;
 use header::read_head;
 use octets::lay;
-use ring::Number;
-use ring::Version;
 use rules::Receiver;
 use rules::answers::Answer;
 use rules::answers::Dropped;
@@ -26,11 +24,6 @@ use rules::answers::Outcome;
 use rules::answers::Where;
 use rules::source;
 use sender::admit;
-
-const NONE_DROPPED: Dropped = Dropped {
-    version: Version(0),
-    number: Number(0),
-};
 
 pub fn message(mut state: Receiver, storage: &mut [u8], packet: &[u8]) -> Answer
     ensures answer { λ r. ⌜ r ≡ messageAnswer state (length (now (storage .entry))) (now (packet .entry)) ⌝ }
@@ -44,7 +37,7 @@ pub fn message(mut state: Receiver, storage: &mut [u8], packet: &[u8]) -> Answer
         return Answer {
             outcome: Outcome::Refused(early),
             held: 0,
-            dropped: NONE_DROPPED,
+            dropped: Dropped::NONE,
             place: Where::Nothing,
             state,
         };
@@ -57,7 +50,7 @@ pub fn message(mut state: Receiver, storage: &mut [u8], packet: &[u8]) -> Answer
         return Answer {
             outcome: Outcome::Refused(late),
             held: 0,
-            dropped: NONE_DROPPED,
+            dropped: Dropped::NONE,
             place: Where::Nothing,
             state,
         };

@@ -6,7 +6,7 @@ use mathlib.Core.List.{List, [], _∷_}
 use lib.Dec.{eqb, leb}
 use lib.ListN.{length}
 use Rattle.header.specs.declared.Head.{Head}
-use Rattle.header.specs.declared.alive.Body.{Body}
+use Rattle.header.specs.declared.signal.Body.{Body}
 use Rattle.header.specs.Alive.{bodyOf, isBody, groupOf}
 use Rattle.header.specs.AlivePlaces.{aliveSize}
 use Rattle.header.specs.Codes.{isAlive, isMode, isPri}

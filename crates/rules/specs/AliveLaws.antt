@@ -10,7 +10,7 @@ use lib.ListN.{length}
 use borrow.Author.Tests.{ne-eqb, leb-false, not-false}
 use Rattle.octets.specs.Split.{true-or-false}
 use Rattle.header.specs.declared.Head.{Head}
-use Rattle.header.specs.declared.alive.Body.{Body}
+use Rattle.header.specs.declared.signal.Body.{Body}
 use Rattle.header.specs.Alive.{bodyOf}
 use Rattle.header.specs.Head.{headOf}
 use Rattle.rules.specs.declared.Address.{Address}

@@ -5,7 +5,7 @@ use mathlib.Core.Bool.{Bool, true, false, not, cond}
 use Prim.Native.Nat.{ℕ}
 use lib.Dec.{eqb}
 use Rattle.header.specs.declared.Head.{Head}
-use Rattle.header.specs.declared.alive.Body.{Body}
+use Rattle.header.specs.declared.signal.Body.{Body}
 use Rattle.rules.specs.declared.Address.{Address}
 use Rattle.rules.specs.declared.Last.{Last}
 use Rattle.rules.specs.declared.Message.{Message}

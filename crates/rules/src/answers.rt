@@ -31,6 +31,13 @@ pub struct Dropped {
     pub number: Number,
 }
 
+impl Dropped {
+    pub const NONE: Dropped = Dropped {
+        version: Version(0),
+        number: Number(0),
+    };
+}
+
 // What one sender's record makes of a PDU.
 pub struct Admission {
     pub outcome: Outcome,

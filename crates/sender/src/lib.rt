@@ -14,9 +14,7 @@ use cut::possible::possible;
 use cut::possible::unit;
 use header::Cut;
 use header::Head;
-use ring::Number;
 use ring::Verdict;
-use ring::Version;
 use ring::newer;
 use ring::number_check;
 use rules::Last;
@@ -30,11 +28,6 @@ use rules::map::holds;
 use rules::map::is_full;
 use rules::map::marked;
 
-const NONE_DROPPED: Dropped = Dropped {
-    version: Version(0),
-    number: Number(0),
-};
-
 // What the record makes of the PDU with this header, at a node with these settings and this clock.
 pub fn admit(s: Sender, test: bool, n1: u16, clock: u64, h: Head) -> Admission
     ensures { λ r. ⌜ r ≡ admission test n1 clock s h ⌝ }
@@ -44,7 +37,7 @@ pub fn admit(s: Sender, test: bool, n1: u16, clock: u64, h: Head) -> Admission
         return Admission {
             outcome: Outcome::Refused(number),
             held: 0,
-            dropped: NONE_DROPPED,
+            dropped: Dropped::NONE,
             sender: s,
         };
     }
@@ -173,7 +166,7 @@ fn dropped_by(s: Sender, h: Head) -> Dropped
         let number = m.number;
         return Dropped { version, number };
     }
-    NONE_DROPPED
+    Dropped::NONE
 }
 
 // The record once the message is delivered: nothing is then open.

@@ -1,6 +1,7 @@
 //! Section 8: damaged states. Each call but setup and cutter asks about 9
 //! first, so each of the four is made on each of them.
 
+use super::calls;
 use super::past::{senders, Past};
 use super::pdu;
 use crate::state::{OpenMessage, Receiver, Sender, AREA};
@@ -34,36 +35,37 @@ fn four_calls(past: &mut Past, lent: usize) {
 
 /// One row. "The message call is lent exactly 32,768 octets of storage in 8.1 to
 /// 8.3, whatever the count says".
-fn row(past: &mut Past, change: impl Fn(&mut Receiver)) {
+fn row(past: &mut Past, damage: impl Fn(&mut Past)) {
     make_busy(past);
-    change(&mut past.receiver);
+    damage(past);
     four_calls(past, 2 * AREA);
+}
+
+/// Changes settings, time or count of the state in use; the field bears all of
+/// them.
+fn change_state(past: &mut Past, change: impl Fn(&mut Receiver)) {
+    change(&mut past.receiver);
+    past.write('t', &calls::settings(&past.receiver));
+}
+
+/// Changes the record of one sender; the field bears the whole of it.
+fn change_sender(past: &mut Past, place: usize, change: impl Fn(&mut Sender)) {
+    let sender = &mut past.receiver.senders[place];
+    change(sender);
+    let contents = calls::record(place, sender);
+    past.write('r', &contents);
 }
 
 /// 01's 9 names what is judged: "a setting, sender, time, last number, open SEQ
 /// or open code outside this paper's limits, a stamp after the clock, last number
-/// 0 under a version not 0".
-const CHANGES: [fn(&mut Receiver); 20] = [
-    |_| (),
+/// 0 under a version not 0". First of the settings and the time.
+const STATE_CHANGES: [fn(&mut Receiver); 6] = [
     |state| state.n1 = 0,
     |state| state.n1 = 1_025,
     |state| state.t = 0,
     |state| state.t = 600_001,
     |state| state.clock = 1_099_511_627_777,
     seventeen_senders,
-    |state| state.senders[1].field = 0,
-    |state| state.senders[1].node = 0,
-    |state| state.senders[1].node = 4_096,
-    |state| (state.senders[1].field, state.senders[1].node) = (1, 7),
-    |state| state.senders[0].last_number = 2_147_483_648,
-    |state| state.senders[0].last_version = 5,
-    |state| state.senders[0].last_number = 7,
-    |state| state.senders[0].message.seq = 0,
-    |state| state.senders[0].message.seq = 2_147_483_648,
-    |state| state.senders[0].message.tcd = 0,
-    |state| state.senders[0].message.tcd = 60_000,
-    |state| state.senders[0].message.stamp = 1_001,
-    |state| state.senders[0].alive_stamp = 1_001,
 ];
 
 /// "one that holds a list has 17 senders in it, those from place 2 on unheard".
@@ -77,10 +79,34 @@ fn seventeen_senders(state: &mut Receiver) {
     state.senders.extend(more);
 }
 
+/// A sender's place, and what becomes of its record.
+type SenderChange = (usize, fn(&mut Sender));
+
+/// Then of one sender.
+const SENDER_CHANGES: [SenderChange; 13] = [
+    (1, |sender| sender.field = 0),
+    (1, |sender| sender.node = 0),
+    (1, |sender| sender.node = 4_096),
+    (1, |sender| (sender.field, sender.node) = (1, 7)),
+    (0, |sender| sender.last_number = 2_147_483_648),
+    (0, |sender| sender.last_version = 5),
+    (0, |sender| sender.last_number = 7),
+    (0, |sender| sender.message.seq = 0),
+    (0, |sender| sender.message.seq = 2_147_483_648),
+    (0, |sender| sender.message.tcd = 0),
+    (0, |sender| sender.message.tcd = 60_000),
+    (0, |sender| sender.message.stamp = 1_001),
+    (0, |sender| sender.alive_stamp = 1_001),
+];
+
 fn one_value_changed(past: &mut Past) {
     past.section("8.1 One value changed");
-    for change in CHANGES {
-        row(past, change);
+    row(past, |_| ());
+    for change in STATE_CHANGES {
+        row(past, |past| change_state(past, change));
+    }
+    for (place, change) in SENDER_CHANGES {
+        row(past, |past| change_sender(past, place, change));
     }
 }
 
@@ -107,52 +133,71 @@ const CUTS_AND_MAPS: [(u16, u8, u16, u64); 14] = [
 fn cut_and_map(past: &mut Past) {
     past.section("8.2 Cut and map of the open message");
     for (n, tbn, u, map) in CUTS_AND_MAPS {
-        row(past, |state| {
-            let open = &mut state.senders[0].message;
+        let change = |sender: &mut Sender| {
+            let open = &mut sender.message;
             (open.n, open.tbn, open.u, open.map) = (n, tbn, u, map);
-        });
+        };
+        row(past, |past| change_sender(past, 0, change));
     }
 }
 
 /// 01: "The record of a message not open, the stamp and al_tm_out of a sender not
-/// alive, and places past the senders are [...] never looked at." This state
-/// holds no places past the senders, so the third row changes nothing.
+/// alive, and places past the senders are [...] never looked at."
 fn never_looked_at(past: &mut Past) {
     past.section("8.3 What is never looked at");
-    row(past, |state| {
-        state.senders[0].open = false;
-        state.senders[0].message = OpenMessage {
-            version: 5,
-            seq: 100,
-            tcd: 60_000,
-            n: 65_535,
-            tbn: 1,
-            u: 0,
-            map: u64::MAX,
-            stamp: u64::MAX,
-        };
-    });
-    row(past, |state| {
-        state.senders[1].alive_stamp = u64::MAX;
-        state.senders[1].al_tm_out = u32::MAX;
-    });
-    row(past, |_| ());
+    row(past, |past| change_sender(past, 0, not_open));
+    row(past, |past| change_sender(past, 1, not_alive));
+    row(past, a_place_past_the_senders);
+}
+
+fn not_open(sender: &mut Sender) {
+    sender.open = false;
+    sender.message = OpenMessage {
+        version: 5,
+        seq: 100,
+        tcd: 60_000,
+        n: 65_535,
+        tbn: 1,
+        u: 0,
+        map: u64::MAX,
+        stamp: u64::MAX,
+    };
+}
+
+fn not_alive(sender: &mut Sender) {
+    sender.alive_stamp = u64::MAX;
+    sender.al_tm_out = u32::MAX;
+}
+
+/// "A program that has no such place sets nothing": this state holds none, so
+/// only the field is written, for one that does.
+fn a_place_past_the_senders(past: &mut Past) {
+    let junk = Sender {
+        field: 1,
+        node: 7,
+        last_version: 5,
+        open: true,
+        alive: true,
+        alive_stamp: u64::MAX,
+        ..Sender::default()
+    };
+    past.write('r', &calls::record(2, &junk));
 }
 
 /// test, n1, t. The first is the empty state: "9 lets it pass".
 const NO_SENDERS: [(bool, u16, u32); 4] =
     [(false, 1, 1), (true, 1, 1), (false, 2, 1), (false, 1, 2)];
 
+/// "In 8.4 the state is made by a setup that is refused (s, the one of 2.6), then
+/// t."
 fn no_senders(past: &mut Past) {
     past.section("8.4 No senders");
     for (test, n1, t) in NO_SENDERS {
         past.fresh();
-        past.receiver = Receiver {
-            test,
-            n1,
-            t,
-            ..Receiver::empty()
-        };
+        past.quietly(|past| past.setup([0, 0, 15_000, 2, 2, 9]));
+        change_state(past, |state| {
+            (state.test, state.n1, state.t) = (test, n1, t)
+        });
         four_calls(past, 0);
     }
 }

@@ -1,54 +1,70 @@
 //! What is at hand while the edges are run, and the calls of `docs/EDGES.md`.
 
+use super::calls;
 use super::pdu::{self, Laid};
 use crate::alive::alive;
 use crate::clock::clock;
+use crate::fields::field;
 use crate::receiver::{message, part, question, Answer};
 use crate::state::{setup, Receiver, Sender, Setup, AREA, SENDERS_MOST};
 
 /// 01: "A past is a setup, storage of its right length with any octets in it,
 /// and then calls, each given the state and storage that the one before left."
-/// The state may be damaged between two calls.
+/// The state may be damaged between two calls. Each call is kept twice, as its
+/// lines and as its field, so that both come from one list of calls.
 pub struct Past {
     pub receiver: Receiver,
-    storage: Vec<u8>,
-    lines: String,
+    pub storage: Vec<u8>,
+    pub lines: String,
+    pub fields: Vec<u8>,
+    quiet: bool,
 }
 
-/// "the whole storage is filled with octet 170".
-const FILL: u8 = 170;
+/// "the whole storage is filled with octet 170"; a cutter's buffer is too.
+pub const FILL: u8 = 170;
 
 impl Past {
     pub fn new() -> Past {
-        let mut past = Past {
+        Past {
             receiver: Receiver::empty(),
             storage: vec![FILL; SENDERS_MOST * AREA],
             lines: String::new(),
-        };
-        past.fresh();
-        past
+            fields: Vec::new(),
+            quiet: false,
+        }
     }
 
-    pub fn lines(self) -> String {
-        self.lines
-    }
-
-    fn print(&mut self, line: &str) {
-        self.lines += line;
+    /// Keeps a call that was made: "A capital one makes its call and prints its
+    /// lines; the small one makes the same call and prints nothing".
+    pub fn made(&mut self, tag: char, contents: &[u8], lines: &str) {
+        if self.quiet {
+            self.write(tag.to_ascii_lowercase(), contents);
+            return;
+        }
+        self.write(tag, contents);
+        self.lines += lines;
         self.lines.push('\n');
+    }
+
+    /// Writes a field that prints nothing of itself. "A tag is a letter, in
+    /// ASCII."
+    pub fn write(&mut self, tag: char, contents: &[u8]) {
+        let field = field(tag as u8, contents).expect("no call needs more than 65,535 octets");
+        self.fields.extend(field);
     }
 
     /// "Every section begins with fresh(), after its # line."
     pub fn section(&mut self, title: &str) {
-        self.print(&format!("# {title}"));
+        self.made('#', title.as_bytes(), &format!("# {title}"));
         self.fresh();
     }
 
     /// Makes calls, "printing nothing".
     pub fn quietly(&mut self, calls: fn(&mut Past)) {
-        let printed = self.lines.len();
+        let before = self.quiet;
+        self.quiet = true;
         calls(self);
-        self.lines.truncate(printed);
+        self.quiet = before;
     }
 
     /// "mode 0, N1 16, T 15000, senders 1:7 and 2:9".
@@ -68,7 +84,7 @@ impl Past {
         });
         self.storage.fill(FILL);
         self.receiver = receiver;
-        self.print(&format!("S {number}"));
+        self.made('S', &calls::setup(values), &format!("S {number}"));
     }
 
     pub fn piece(&mut self, values: [u32; 8]) {
@@ -113,7 +129,8 @@ impl Past {
             sum(delivered),
             sum(storage),
         ];
-        self.print(&format!("P {}", joined(&numbers)));
+        let line = format!("P {}", joined(&numbers));
+        self.made('P', &calls::message(lent, packet), &line);
     }
 
     pub fn alive(&mut self, field: u32, node: u32, al_mode: u32, al_tm_out: u32) {
@@ -130,15 +147,13 @@ impl Past {
 
     fn alive_call(&mut self, packet: &[u8]) {
         let number = alive(&mut self.receiver, packet);
-        self.print(&format!("A {number}"));
+        self.made('A', packet, &format!("A {number}"));
     }
 
     pub fn clock(&mut self, ms: u64) {
         let answer = clock(&mut self.receiver, ms);
-        self.print(&format!(
-            "C {} {} {}",
-            answer.number, answer.dropped, answer.dead
-        ));
+        let line = format!("C {} {} {}", answer.number, answer.dropped, answer.dead);
+        self.made('C', &ms.to_be_bytes(), &line);
     }
 
     /// "Q number open place piece": "otherwise 0 0 0, also on a refusal".
@@ -148,7 +163,7 @@ impl Past {
             Answer::NoneOpen => "Q 0 0 0 0".into(),
             Answer::Missing { sender, piece } => format!("Q 0 1 {sender} {piece}"),
         };
-        self.print(&line);
+        self.made('Q', &[], &line);
     }
 
     /// "W test n1 t clock count", and a w line for each sender.
@@ -163,7 +178,7 @@ impl Past {
             state.clock
         )];
         lines.extend(state.senders.iter().enumerate().map(sender_line));
-        self.print(&lines.join("\n"));
+        self.made('W', &[], &lines.join("\n"));
     }
 }
 
@@ -180,8 +195,13 @@ pub fn senders(count: u32, second: (u8, u16)) -> Vec<(u8, u16)> {
 /// "w place field node rv r open version number tcd n tbn u map stamp alive
 /// heard-stamp al_tm_out".
 fn sender_line((place, sender): (usize, &Sender)) -> String {
+    format!("w {}", joined(&record(place, sender)))
+}
+
+/// All values of a sender's record, "in the order of the w line".
+pub fn record(place: usize, sender: &Sender) -> [u64; 17] {
     let open = &sender.message;
-    let numbers: [u64; 17] = [
+    [
         place as u64,
         sender.field.into(),
         sender.node.into(),
@@ -199,18 +219,17 @@ fn sender_line((place, sender): (usize, &Sender)) -> String {
         sender.alive.into(),
         sender.alive_stamp,
         sender.al_tm_out.into(),
-    ];
-    format!("w {}", joined(&numbers))
+    ]
 }
 
 /// "one blank between".
-fn joined<N: ToString>(numbers: &[N]) -> String {
+pub fn joined<N: ToString>(numbers: &[N]) -> String {
     let words: Vec<String> = numbers.iter().map(N::to_string).collect();
     words.join(" ")
 }
 
 /// "s = 7; then, for each octet in order, s = (31 x s + octet) mod 2^32."
-fn sum(octets: &[u8]) -> u32 {
+pub fn sum(octets: &[u8]) -> u32 {
     octets.iter().fold(7, |s: u32, octet| {
         s.wrapping_mul(31).wrapping_add(u32::from(*octet))
     })

@@ -1,6 +1,8 @@
 //! The PDUs of the edges: written as `docs/EDGES.md` says, also where no cutter
 //! would write them so.
 
+use std::ops::Range;
+
 use crate::alive::{AL_MODE, AL_PROTOCOL, AL_TM_OUT, AL_VER};
 use crate::cut;
 use crate::header::{write_head, Head, Place, HEADER};
@@ -29,12 +31,17 @@ fn message_octet(i: usize, seq: u32) -> u8 {
     ((7 * i + i / 256 + seq as usize) % 256) as u8
 }
 
+/// A run of the octets of the message with this number.
+pub fn message(octets: Range<usize>, seq: u32) -> Vec<u8> {
+    octets.map(|i| message_octet(i, seq)).collect()
+}
+
 /// The header and, behind it, message octets from `start` on; `lent` octets of
 /// all this.
 fn pdu(head: &Head, start: usize, lent: usize) -> Vec<u8> {
     let mut pdu = vec![0; HEADER];
     write_head(head, &mut pdu);
-    pdu.extend((start..start + lent).map(|i| message_octet(i, head.seq)));
+    pdu.extend(message(start..start + lent, head.seq));
     pdu.truncate(lent);
     pdu
 }

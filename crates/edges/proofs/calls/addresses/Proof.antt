@@ -1,32 +1,26 @@
 -- Each turn fills one place of the table. Assumes nothing.
-use Prim.Native.Nat.{_≤_, _-_}
 use borrow.Author.Needs.{needs}
+use Prim.Native.Nat.{_≤_, _-_}
 use Rattle.edges.proofs.calls.addresses.Statement.{statement}
 use Rattle.edges.proofs.calls.addresses.Tie as tie
 
 abbrev Inv-loop : tie.InvT-loop
-Inv-loop field node senders₀ i₀ senders i = i ≤ 16
+Inv-loop contents senders₀ i₀ senders i = i ≤ 16
 
 abbrev μ-loop : tie.MeasureT-loop
-μ-loop field node senders₀ i₀ senders i = 16 - i
+μ-loop contents senders₀ i₀ senders i = 16 - i
 
 loop-holds : tie.Need-loop-holds Inv-loop μ-loop
 loop-holds c = search needs
 
+mul-address : tie.Need-mul-address Inv-loop μ-loop
+mul-address c = search needs
+
 add-address : tie.Need-add-address Inv-loop μ-loop
 add-address c = search needs
 
-cast-address : tie.Need-cast-address Inv-loop μ-loop
-cast-address c = search needs
-
-add-address-2 : tie.Need-add-address-2 Inv-loop μ-loop
-add-address-2 c = search needs
-
 address-requires : tie.Need-address-requires Inv-loop μ-loop
 address-requires c κs = search needs
-
-cast-senders : tie.Need-cast-senders Inv-loop μ-loop
-cast-senders c = search needs
 
 mul-senders : tie.Need-mul-senders Inv-loop μ-loop
 mul-senders c = search needs
@@ -43,12 +37,6 @@ loop-less c = search needs
 loop-again : tie.Need-loop-again Inv-loop μ-loop
 loop-again c = search needs
 
-address-requires-2 : tie.Need-address-requires-2 Inv-loop μ-loop
-address-requires-2 c κs = search needs
-
-array-set-from-senders-2 : tie.Need-array-set-from-senders-2 Inv-loop μ-loop
-array-set-from-senders-2 c = search needs
-
 returns : tie.Need-returns Inv-loop μ-loop
 returns c = search needs
 
@@ -59,16 +47,12 @@ addresses-spec =
     Inv-loop
     μ-loop
     loop-holds
+    mul-address
     add-address
-    cast-address
-    add-address-2
     address-requires
-    cast-senders
     mul-senders
     array-set-from-senders
     add-i
     loop-less
     loop-again
-    address-requires-2
-    array-set-from-senders-2
     returns)

@@ -1,0 +1,99 @@
+-- Every turn makes one call, and there are turns enough. Assumes nothing.
+use borrow.Author.Needs.{needs}
+use mathlib.Core.Path.{_≡_}
+use lib.ListN.{length}
+use Rattle.edges.proofs.run.Statement.{statement}
+use Rattle.edges.proofs.run.Tie as tie
+
+abbrev Inv-loop : tie.InvT-loop
+Inv-loop storage₀ field₀ w₀ turns₀ storage field w turns = (length storage ≡ length storage₀) × (length field ≡ 65538) × (length field ≡ length field₀)
+
+abbrev μ-loop : tie.MeasureT-loop
+μ-loop storage₀ field₀ w₀ turns₀ storage field w turns = turns
+
+empty-requires : tie.Need-empty-requires Inv-loop μ-loop
+empty-requires c κs = search needs
+
+loop-holds : tie.Need-loop-holds Inv-loop μ-loop
+loop-holds c = search needs
+
+read-field-requires : tie.Need-read-field-requires Inv-loop μ-loop
+read-field-requires c κs = search needs
+
+same-length : tie.Need-same-length Inv-loop μ-loop
+same-length c = search needs
+
+same-length-2 : tie.Need-same-length-2 Inv-loop μ-loop
+same-length-2 c = search needs
+
+returns : tie.Need-returns Inv-loop μ-loop
+returns c = search needs
+
+sub-look : tie.Need-sub-look Inv-loop μ-loop
+sub-look c = search needs
+
+part-look-start : tie.Need-part-look-start Inv-loop μ-loop
+part-look-start c = search needs
+
+part-look-end : tie.Need-part-look-end Inv-loop μ-loop
+part-look-end c = search needs
+
+look-requires : tie.Need-look-requires Inv-loop μ-loop
+look-requires c κs = search needs
+
+sub-call : tie.Need-sub-call Inv-loop μ-loop
+sub-call c = search needs
+
+part-call-start : tie.Need-part-call-start Inv-loop μ-loop
+part-call-start c = search needs
+
+part-call-end : tie.Need-part-call-end Inv-loop μ-loop
+part-call-end c = search needs
+
+call-requires : tie.Need-call-requires Inv-loop μ-loop
+call-requires c κs = search needs
+
+sub-turns : tie.Need-sub-turns Inv-loop μ-loop
+sub-turns c = search needs
+
+loop-less : tie.Need-loop-less Inv-loop μ-loop
+loop-less c = search needs
+
+loop-again : tie.Need-loop-again Inv-loop μ-loop
+loop-again c = search needs
+
+same-length-3 : tie.Need-same-length-3 Inv-loop μ-loop
+same-length-3 c = search needs
+
+same-length-4 : tie.Need-same-length-4 Inv-loop μ-loop
+same-length-4 c = search needs
+
+returns-2 : tie.Need-returns-2 Inv-loop μ-loop
+returns-2 c = search needs
+
+pub run-spec : {M : Type 1} → statement M
+run-spec =
+    tie.close
+    (tie.spec
+    Inv-loop
+    μ-loop
+    empty-requires
+    loop-holds
+    read-field-requires
+    same-length
+    same-length-2
+    returns
+    sub-look
+    part-look-start
+    part-look-end
+    look-requires
+    sub-call
+    part-call-start
+    part-call-end
+    call-requires
+    sub-turns
+    loop-less
+    loop-again
+    same-length-3
+    same-length-4
+    returns-2)

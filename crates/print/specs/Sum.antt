@@ -1,0 +1,16 @@
+-- The sum of octets, as docs/EDGES.md has it.
+use Prim.Native.Nat.{ℕ, _+_, _*_, _%_}
+use mathlib.Core.List.{List, [], _∷_}
+
+-- "s = (31 × s + octet) mod 2^32"
+unfoldable pub step : ℕ → ℕ → ℕ
+step s octet = (31 * s + octet) % 4294967296
+
+-- "for each octet in order"
+unfoldable pub sumFrom : ℕ → List ℕ → ℕ
+sumFrom s [] = s
+sumFrom s (octet ∷ octets) = sumFrom (step s octet) octets
+
+-- "s = 7"
+unfoldable pub sumOf : List ℕ → ℕ
+sumOf octets = sumFrom 7 octets

@@ -1,0 +1,456 @@
+//! `second edges-calls`: its fields, read back with a reader of their own, have
+//! the shape that `docs/EDGES.md` gives them, and make the calls whose lines
+//! `second edges` prints.
+
+use std::sync::OnceLock;
+
+use second::alive::alive;
+use second::clock::clock;
+use second::cut::{cut_piece, HeaderValues};
+use second::fields::{next_field, Next};
+use second::receiver::{message, part, question, Answer, Where};
+use second::state::{setup, OpenMessage, Receiver, Sender, Setup};
+
+/// A field as it is read: tag and contents.
+type Field = (char, Vec<u8>);
+
+/// All fields, made and read once for all tests.
+fn fields() -> &'static [Field] {
+    static FIELDS: OnceLock<Vec<Field>> = OnceLock::new();
+    FIELDS.get_or_init(|| read(&second::edges::calls_as_fields()))
+}
+
+/// "tag octet, two-octet length, contents"; a field that is cut is a panic here.
+fn read(octets: &[u8]) -> Vec<Field> {
+    let mut fields = Vec::new();
+    let mut rest = octets;
+    while !rest.is_empty() {
+        let end = 3 + usize::from(rest[1]) * 256 + usize::from(rest[2]);
+        fields.push((char::from(rest[0]), rest[3..end].to_vec()));
+        rest = &rest[end..];
+    }
+    fields
+}
+
+/// The fields of one section, without its title.
+fn section(title: &str) -> Vec<Field> {
+    let mut found = fields()
+        .iter()
+        .skip_while(|(tag, contents)| *tag != '#' || contents != title.as_bytes());
+    assert!(found.next().is_some(), "no section {title:?}");
+    found.take_while(|(tag, _)| *tag != '#').cloned().collect()
+}
+
+fn tags(fields: &[Field]) -> String {
+    fields.iter().map(|(tag, _)| *tag).collect()
+}
+
+// The shape.
+
+/// The least and the most octets of a field with this tag.
+fn room(tag: char) -> (usize, usize) {
+    match tag {
+        '#' => (1, 100),
+        // 1 + 2 + 4 + 1, and 1 + 2 for each of 16 places.
+        'S' | 's' => (56, 56),
+        'P' | 'p' => (4, 4 + 1_461),
+        'A' | 'a' => (127, 1_473),
+        'C' | 'c' => (8, 8),
+        'Q' | 'W' => (0, 0),
+        't' => (16, 16),
+        'r' => (57, 57),
+        'K' => (29, 29 + 20_000),
+        'R' => (21, 21 + 74),
+        'F' => (0, 3 + 65_000),
+        _ => panic!("no such tag: {tag:?}"),
+    }
+}
+
+#[test]
+fn each_field_has_its_shape() {
+    for (tag, contents) in fields() {
+        let (least, most) = room(*tag);
+        let length = contents.len();
+        assert!((least..=most).contains(&length), "{tag} with {length}");
+    }
+}
+
+/// Each line but w and k is of one field, and each field with `#` or a capital
+/// prints one line, which begins with its tag.
+#[test]
+fn each_field_that_prints_has_its_line() {
+    let printing = fields().iter().filter(|(tag, _)| !tag.is_lowercase());
+    let printing: String = printing.map(|(tag, _)| *tag).collect();
+    let lines = second::edges::lines();
+    let lines = lines.lines().filter(|line| !line.starts_with(['w', 'k']));
+    let letters: String = lines.filter_map(|line| line.chars().next()).collect();
+    assert_eq!(printing.len(), letters.len());
+    assert_eq!(printing, letters);
+}
+
+/// `fresh()` after each title, and before each row where the page says so.
+#[test]
+fn fresh_is_written_where_it_is_made() {
+    assert_eq!(tags(&fields()[..3]), "#sS");
+    assert_eq!(tags(&section("1.1 Setup")), ["s", &"S".repeat(28)].concat());
+    assert_eq!(
+        tags(&section("2.3 Storage")),
+        ["s", &"sP".repeat(6)].concat()
+    );
+    assert_eq!(
+        tags(&section("7.3 Two numbers at once")),
+        ["s", &"sA".repeat(4)].concat()
+    );
+    assert_eq!(
+        tags(&section("10.3 Header values")),
+        ["s", &"K".repeat(46)].concat()
+    );
+    assert_eq!(
+        tags(&section("11.1 Slices that do not fit")),
+        ["sPPP", &"R".repeat(24)].concat()
+    );
+}
+
+#[test]
+fn damage_is_written_between_the_calls() {
+    let rows = |damage: &str, count: usize| format!("scap{damage}PACQ").repeat(count);
+    let one_value = ["s".to_string(), rows("", 1), rows("t", 6), rows("r", 13)];
+    assert_eq!(tags(&section("8.1 One value changed")), one_value.concat());
+    let cuts = ["s".to_string(), rows("r", 14)].concat();
+    assert_eq!(tags(&section("8.2 Cut and map of the open message")), cuts);
+    let unseen = ["s".to_string(), rows("r", 3)].concat();
+    assert_eq!(tags(&section("8.3 What is never looked at")), unseen);
+    let nobody = ["s", &"sstPACQ".repeat(4)].concat();
+    assert_eq!(tags(&section("8.4 No senders")), nobody);
+}
+
+// Some fields, octet by octet.
+
+/// Mode, N1, T, count, then places 0 and 1; place i from 2 is (1 + i):(7 + i).
+fn setup_by_hand(first: [u8; 8], second: [u8; 3]) -> Vec<u8> {
+    let mut expected = first.to_vec();
+    expected.extend([1, 0, 7]);
+    expected.extend(second);
+    expected.extend([3, 0, 9, 4, 0, 10, 5, 0, 11, 6, 0, 12, 7, 0, 13]);
+    expected.extend([8, 0, 14, 9, 0, 15, 10, 0, 16, 11, 0, 17, 12, 0, 18]);
+    expected.extend([13, 0, 19, 14, 0, 20, 15, 0, 21, 16, 0, 22]);
+    expected
+}
+
+/// T 15000 is 58 x 256 + 152; 600000 is 9 x 65536 + 39 x 256 + 192.
+#[test]
+fn setups_octet_by_octet() {
+    let base = setup_by_hand([0, 0, 16, 0, 0, 58, 152, 2], [2, 0, 9]);
+    let rows = section("1.1 Setup");
+    assert_eq!(rows[0], ('s', base.clone()));
+    assert_eq!(rows[1], ('S', base));
+    let seventeen = setup_by_hand([0, 0, 16, 0, 0, 58, 152, 17], [2, 0, 8]);
+    assert_eq!(rows[13], ('S', seventeen));
+    let most = setup_by_hand([1, 4, 0, 0, 9, 39, 192, 2], [255, 15, 255]);
+    assert_eq!(section("1.2 What setup returns")[3], ('S', most));
+}
+
+/// 16384 x 5 is 81920 = 65536 + 64 x 256; one octet less and one more.
+#[test]
+fn lent_storage_is_what_the_call_is_lent() {
+    let lent = |field: &Field| field.1[..4].to_vec();
+    let rows = section("9.2 Five to sixteen senders");
+    assert_eq!(tags(&rows[..14]), "sSPPPPQACPPCCW");
+    assert_eq!(lent(&rows[2]), [0, 1, 64, 0]);
+    assert_eq!(lent(&rows[4]), [0, 1, 63, 255]);
+    assert_eq!(lent(&rows[5]), [0, 1, 64, 1]);
+    assert_eq!(rows[5].1.len(), 4 + 74);
+    // Nothing is lent at the empty state.
+    let empty = section("2.6 The empty state");
+    assert_eq!(
+        (tags(&empty).as_str(), lent(&empty[2])),
+        ("sSPPPP", vec![0; 4])
+    );
+    // 32768, whatever the count says: the row with count 17 is the seventh.
+    let damaged = section("8.1 One value changed");
+    assert_eq!(lent(&damaged[1 + 8 + 5 * 9 + 5]), [0, 0, 128, 0]);
+}
+
+/// Clock 1000 is 3 x 256 + 232; 1099511627777 is 2^40 + 1.
+#[test]
+fn damaged_settings_octet_by_octet() {
+    let rows = section("8.1 One value changed");
+    // fresh, a row of 8 fields, then rows of 9; the damage is each one's fifth.
+    let damage = |row: usize| rows[1 + 8 + (row - 2) * 9 + 4].clone();
+    let n1_0 = [0, 0, 0, 0, 0, 58, 152, 0, 0, 0, 0, 0, 0, 3, 232, 2];
+    assert_eq!(damage(2), ('t', n1_0.to_vec()));
+    let late = [0, 0, 16, 0, 0, 58, 152, 0, 0, 1, 0, 0, 0, 0, 1, 2];
+    assert_eq!(damage(6), ('t', late.to_vec()));
+    let seventeen = [0, 0, 16, 0, 0, 58, 152, 0, 0, 0, 0, 0, 0, 3, 232, 17];
+    assert_eq!(damage(7), ('t', seventeen.to_vec()));
+    let nobody = section("8.4 No senders");
+    // fresh, then rows of 7; 0 senders at clock 0.
+    assert_eq!(nobody[2].1[..3], [0, 0, 0]);
+    let empty = [0, 0, 1, 0, 0, 0, 1, 0, 0, 0, 0, 0, 0, 0, 0, 0];
+    assert_eq!(nobody[3], ('t', empty.to_vec()));
+    let test = [1, 0, 1, 0, 0, 0, 1, 0, 0, 0, 0, 0, 0, 0, 0, 0];
+    assert_eq!(nobody[10], ('t', test.to_vec()));
+}
+
+/// The busy sender 0 with tcd 60000 (234 x 256 + 96), and 8.3's place 2.
+#[test]
+fn damaged_records_octet_by_octet() {
+    let rows = section("8.1 One value changed");
+    let mut expected = vec![0, 1, 0, 7, 0, 0, 0, 0, 0, 0, 0, 0];
+    expected.extend([1, 0, 0, 0, 5, 0, 0, 0, 100, 234, 96, 17, 148, 4, 5, 52]);
+    expected.extend([0, 0, 0, 0, 0, 0, 0, 2, 0, 0, 0, 0, 0, 0, 3, 232]);
+    expected.extend([1, 0, 0, 0, 0, 0, 0, 3, 232, 0, 0, 0, 60]);
+    assert_eq!(rows[1 + 8 + 16 * 9 + 4], ('r', expected));
+    let rows = section("8.3 What is never looked at");
+    let mut expected = vec![2, 1, 0, 7, 0, 0, 0, 5, 0, 0, 0, 0, 1];
+    expected.extend([0; 31]);
+    expected.extend([1, 255, 255, 255, 255, 255, 255, 255, 255, 0, 0, 0, 0]);
+    assert_eq!(rows[1 + 2 * 9 + 4], ('r', expected));
+}
+
+/// cut_with(SEQ, 305419896) and the part whose end is above 2^64.
+#[test]
+fn cutter_part_and_field_octet_by_octet() {
+    let message = [100, 107, 114, 121, 128, 135, 142, 149, 156, 163];
+    let mut expected = vec![0, 128, 1, 0, 1, 1, 0, 7, 0, 1, 0, 1, 0, 0, 0, 5];
+    expected.extend([18, 52, 86, 120, 128, 0, 0, 0, 0, 1, 0, 0, 0]);
+    expected.extend(message);
+    let before = 3 + 7 + 4 + 4;
+    assert_eq!(
+        section("10.3 Header values")[1 + before + 5],
+        ('K', expected)
+    );
+    let rows = section("11.1 Slices that do not fit");
+    let mut expected = vec![2];
+    expected.extend([255; 8]);
+    expected.extend([0, 0, 0, 0, 0, 0, 0, 1, 0, 0, 128, 0]);
+    assert_eq!(rows[1 + 3 + 21], ('R', expected));
+    let rows = section("12.1 Cut at each place");
+    let whole = vec![4, 0, 3, 4, 21, 38, 1, 1];
+    assert_eq!(rows.last(), Some(&('F', whole)));
+}
+
+// The calls, made again from their fields alone.
+
+/// Numbers read off the front of some contents.
+struct Contents<'a>(&'a [u8]);
+
+impl Contents<'_> {
+    fn number(&mut self, size: usize) -> u64 {
+        let (front, rest) = self.0.split_at(size);
+        self.0 = rest;
+        front.iter().fold(0, |n, octet| n * 256 + u64::from(*octet))
+    }
+}
+
+/// The state in use, the storage, and the lines printed.
+struct Replay {
+    state: Receiver,
+    storage: Vec<u8>,
+    lines: Vec<String>,
+}
+
+fn sum(octets: &[u8]) -> u64 {
+    let next = |s, octet: &u8| (31 * s + u64::from(*octet)) % 4_294_967_296;
+    octets.iter().fold(7, next)
+}
+
+impl Replay {
+    /// One field: its call, and its lines if the tag prints.
+    fn field(&mut self, tag: char, contents: &[u8]) {
+        let line = match tag.to_ascii_uppercase() {
+            '#' => format!("# {}", std::str::from_utf8(contents).unwrap()),
+            'S' => self.setup(Contents(contents)),
+            'P' => self.message(Contents(contents)),
+            'A' => format!("A {}", alive(&mut self.state, contents)),
+            'C' => self.clock(Contents(contents)),
+            'Q' => self.ask(),
+            'W' => self.show(),
+            'T' => self.damage_state(Contents(contents)),
+            'K' => cut(Contents(contents)),
+            'R' if tag == 'r' => self.damage_sender(Contents(contents)),
+            'R' => self.part(Contents(contents)),
+            _ => field(contents),
+        };
+        if !tag.is_lowercase() {
+            self.lines.extend(line.lines().map(str::to_string));
+        }
+    }
+
+    fn setup(&mut self, mut contents: Contents) -> String {
+        let mut wanted = Setup {
+            mode: contents.number(1) as u8,
+            n1: contents.number(2) as u16,
+            t: contents.number(4) as u32,
+            senders: Vec::new(),
+        };
+        let count = contents.number(1) as usize;
+        for _ in 0..16 {
+            let sender = (contents.number(1) as u8, contents.number(2) as u16);
+            wanted.senders.push(sender);
+        }
+        // 17 or more: any further pair, so that the list is as long as that.
+        wanted.senders.resize(count, (99, 99));
+        self.storage.fill(170);
+        let (number, state) = setup(&wanted);
+        self.state = state;
+        format!("S {number}")
+    }
+
+    fn message(&mut self, mut contents: Contents) -> String {
+        let storage = &mut self.storage[..contents.number(4) as usize];
+        let packet = contents.0;
+        let a = message(&mut self.state, storage, packet);
+        let delivered = part(a.message, packet, storage);
+        let sums = format!("{} {}", sum(delivered), sum(storage));
+        let dropped = format!("{} {}", a.dropped_version, a.dropped_number);
+        let (number, verdict, length) = (a.number, a.verdict.number(), delivered.len());
+        let (held, skipped) = (a.held, a.skipped);
+        format!("P {number} {verdict} {held} {length} {skipped} {dropped} {sums}")
+    }
+
+    fn clock(&mut self, mut contents: Contents) -> String {
+        let answer = clock(&mut self.state, contents.number(8));
+        format!("C {} {} {}", answer.number, answer.dropped, answer.dead)
+    }
+
+    fn ask(&self) -> String {
+        match question(&self.state) {
+            Answer::Refused(number) => format!("Q {number} 0 0 0"),
+            Answer::NoneOpen => "Q 0 0 0 0".into(),
+            Answer::Missing { sender, piece } => format!("Q 0 1 {sender} {piece}"),
+        }
+    }
+
+    fn show(&self) -> String {
+        let s = &self.state;
+        let (test, count) = (u8::from(s.test), s.senders.len());
+        let mut lines = format!("W {test} {} {} {} {count}\n", s.n1, s.t, s.clock);
+        for (place, sender) in s.senders.iter().enumerate() {
+            lines += &sender_line(place, sender);
+        }
+        lines
+    }
+
+    fn damage_state(&mut self, mut contents: Contents) -> String {
+        self.state.test = contents.number(1) == 1;
+        self.state.n1 = contents.number(2) as u16;
+        self.state.t = contents.number(4) as u32;
+        self.state.clock = contents.number(8);
+        let count = contents.number(1) as usize;
+        self.state.senders.resize(count, Sender::default());
+        String::new()
+    }
+
+    /// "A program that has no such place sets nothing".
+    fn damage_sender(&mut self, mut contents: Contents) -> String {
+        let place = contents.number(1) as usize;
+        let damaged = sender_of(contents);
+        if let Some(sender) = self.state.senders.get_mut(place) {
+            *sender = damaged;
+        }
+        String::new()
+    }
+
+    fn part(&mut self, mut contents: Contents) -> String {
+        let kind = contents.number(1);
+        let start = contents.number(8) as usize;
+        let length = contents.number(8) as usize;
+        let place = match kind {
+            0 => Where::Nothing,
+            1 => Where::Packet,
+            _ => Where::Storage { start, length },
+        };
+        let storage = &self.storage[..contents.number(4) as usize];
+        let part = part(place, contents.0, storage);
+        format!("R {} {}", part.len(), sum(part))
+    }
+}
+
+fn sender_line(place: usize, sender: &Sender) -> String {
+    let (o, open, alive) = (&sender.message, sender.open as u8, sender.alive as u8);
+    let last = format!("{} {}", sender.last_version, sender.last_number);
+    let named = format!("{} {} {} {} {}", o.version, o.seq, o.tcd, o.n, o.tbn);
+    let cut = format!("{} {} {}", o.u, o.map, o.stamp);
+    let heard = format!("{alive} {} {}", sender.alive_stamp, sender.al_tm_out);
+    let pair = format!("{} {}", sender.field, sender.node);
+    format!("w {place} {pair} {last} {open} {named} {cut} {heard}\n")
+}
+
+fn sender_of(mut contents: Contents) -> Sender {
+    Sender {
+        field: contents.number(1) as u8,
+        node: contents.number(2) as u16,
+        last_version: contents.number(4) as u32,
+        last_number: contents.number(4) as u32,
+        open: contents.number(1) == 1,
+        message: OpenMessage {
+            version: contents.number(4) as u32,
+            seq: contents.number(4) as u32,
+            tcd: contents.number(2) as u16,
+            n: contents.number(2) as u16,
+            tbn: contents.number(1) as u8,
+            u: contents.number(2) as u16,
+            map: contents.number(8),
+            stamp: contents.number(8),
+        },
+        alive: contents.number(1) == 1,
+        alive_stamp: contents.number(8),
+        al_tm_out: contents.number(4) as u32,
+    }
+}
+
+fn cut(mut contents: Contents) -> String {
+    let mut buffer = vec![170; contents.number(2) as usize];
+    let (u, piece) = (contents.number(2) as usize, contents.number(1) as usize);
+    let values = HeaderValues {
+        field: contents.number(1) as u8,
+        node: contents.number(2) as u16,
+        da: contents.number(4) as u32,
+        version: contents.number(4) as u32,
+        seq: contents.number(4) as u32,
+        m_ctl: contents.number(4) as u32,
+        tcd: contents.number(2) as u16,
+        mode: contents.number(2) as u16,
+        pri: contents.number(1) as u8,
+    };
+    let answer = cut_piece(&values, contents.0, u, piece, &mut buffer);
+    let (pdu, rest) = buffer.split_at(answer.length);
+    let sums = format!("{} {}", sum(pdu), sum(rest));
+    let line = format!("K {} {} {sums}\n", answer.number, answer.length);
+    if answer.number != 0 {
+        return line;
+    }
+    let octets = pdu[..64].iter().map(|octet| format!(" {octet}"));
+    line + "k" + &octets.collect::<String>()
+}
+
+fn field(octets: &[u8]) -> String {
+    match next_field(octets) {
+        Next::End => "F 0 0 0 7".into(),
+        Next::Cut => "F 1 0 0 7".into(),
+        Next::Bad => "F 2 0 0 7".into(),
+        Next::One { tag, contents, .. } => {
+            format!("F 3 {tag} {} {}", contents.len(), sum(contents))
+        }
+    }
+}
+
+/// "such a program needs nothing of this page but "The calls as fields"".
+#[test]
+fn the_fields_alone_give_the_same_lines() {
+    let mut replay = Replay {
+        state: Receiver::empty(),
+        storage: vec![0; 262_144],
+        lines: Vec::new(),
+    };
+    for (tag, contents) in fields() {
+        replay.field(*tag, contents);
+    }
+    let printed = second::edges::lines();
+    let printed: Vec<&str> = printed.lines().collect();
+    assert_eq!(replay.lines.len(), printed.len());
+    for (at, line) in printed.iter().enumerate() {
+        assert_eq!(replay.lines[at], *line, "line {}", at + 1);
+    }
+}
