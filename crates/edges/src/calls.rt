@@ -20,14 +20,14 @@ use print::answers::question_line;
 use print::state::state_lines;
 use print::sum;
 use print::title;
+use question::question;
 use receiver::message::message;
 use receiver::part::part;
-use receiver::question::question;
-use receiver::setup::setup;
 use rules::Address;
 use rules::Receiver;
 use rules::answers::Answer;
 use rules::answers::Setup;
+use setup::setup;
 
 // The octets in front of a field's contents: its tag and its length.
 pub(crate) const HEAD: usize = 3;

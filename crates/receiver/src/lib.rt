@@ -1,8 +1,7 @@
-// The receiver: the calls on a state by value, with storage and packets lent.
+// The receiver's message call, on a state by value with storage and a packet lent, and the octets that it delivers. The other calls are
+// crates of their own.
 //
 // Every public function is total: any state, any storage and any octets may come, and each meets its number.
 
 pub mod message;
 pub mod part;
-pub mod question;
-pub mod setup;

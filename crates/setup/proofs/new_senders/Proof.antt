@@ -8,8 +8,8 @@ use lib.ListN.{length, length-set}
 use Rattle.rules.specs.Setup.{newSenders}
 use borrow.Author.Needs.{needs}
 use borrow.Author.Needs.{needs}
-use Rattle.receiver.proofs.setup.new_senders.Statement.{statement}
-use Rattle.receiver.proofs.setup.new_senders.Tie as tie
+use Rattle.setup.proofs.new_senders.Statement.{statement}
+use Rattle.setup.proofs.new_senders.Tie as tie
 
 abbrev Inv-loop : tie.InvT-loop
 Inv-loop count addresses senders₀ i₀ senders i = (i ≤ count) × (length senders ≡ 16) × (senders ≡ newSenders addresses i)

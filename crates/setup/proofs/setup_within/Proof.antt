@@ -1,8 +1,8 @@
 -- Each test is that of the definition. Assumes nothing.
 use Rattle.rules.specs.Setup.{setupWithin}
 use borrow.Author.Needs.{needs}
-use Rattle.receiver.proofs.setup.setup_within.Statement.{statement}
-use Rattle.receiver.proofs.setup.setup_within.Tie as tie
+use Rattle.setup.proofs.setup_within.Statement.{statement}
+use Rattle.setup.proofs.setup_within.Tie as tie
 
 addresses-within-requires : tie.Need-addresses-within-requires
 addresses-within-requires c κs = search needs

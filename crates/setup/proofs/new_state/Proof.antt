@@ -1,8 +1,8 @@
 -- The record is that of the definition. Assumes nothing.
 use Rattle.rules.specs.Setup.{setupState}
 use borrow.Author.Needs.{needs}
-use Rattle.receiver.proofs.setup.new_state.Statement.{statement}
-use Rattle.receiver.proofs.setup.new_state.Tie as tie
+use Rattle.setup.proofs.new_state.Statement.{statement}
+use Rattle.setup.proofs.new_state.Tie as tie
 
 new-senders-requires : tie.Need-new-senders-requires
 new-senders-requires c κs = search needs

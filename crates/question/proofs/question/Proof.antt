@@ -14,8 +14,8 @@ use Rattle.rules.specs.QuestionLaws.{all-held, question-none, question-piece, q
 use Rattle.rules.specs.State.{senderAt}
 use borrow.Author.Needs.{needs}
 use Rattle.rules.specs.QuestionLaws.{piecesOf, Held, all-held, question-none, question-piece, question-nine}
-use Rattle.receiver.proofs.question.question.Statement.{statement}
-use Rattle.receiver.proofs.question.question.Tie as tie
+use Rattle.question.proofs.question.Statement.{statement}
+use Rattle.question.proofs.question.Tie as tie
 
 abbrev Inv-loop : tie.InvT-loop
 Inv-loop state count missing₀ i map pieces k₀ missing k = (k ≤ pieces) × ((j : ℕ) → j < k → holds map (j + 1) ≡ true) × (missing ≡ missing₀)

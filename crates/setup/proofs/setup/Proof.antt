@@ -4,8 +4,8 @@ use borrow.Author.Tests.{not-true, not-false}
 use Rattle.rules.specs.Setup.{setupAnswer}
 use Rattle.rules.specs.SetupLaws.{setup-count}
 use borrow.Author.Needs.{needs}
-use Rattle.receiver.proofs.setup.setup.Statement.{statement}
-use Rattle.receiver.proofs.setup.setup.Tie as tie
+use Rattle.setup.proofs.setup.Statement.{statement}
+use Rattle.setup.proofs.setup.Tie as tie
 
 setup-within-requires : tie.Need-setup-within-requires
 setup-within-requires c κs = search needs
