@@ -12,7 +12,7 @@ use libc::STDIN_FILENO;
 use libc::STDOUT_FILENO;
 use lines::Line;
 use lines::text_of;
-use rules::Receiver;
+use state::Receiver;
 
 fn main() {
     let mut storage = [0u8; 65_536];

@@ -15,12 +15,12 @@ use header::signal::Body;
 use header::signal::SIZE;
 use header::signal::group;
 use header::signal::read_body;
-use rules::Heard;
-use rules::Receiver;
-use rules::Sender;
 use rules::answers::Call;
 use rules::answers::Noted;
-use rules::source;
+use state::Heard;
+use state::Receiver;
+use state::Sender;
+use state::source;
 
 pub fn alive(mut state: Receiver, packet: &[u8]) -> Noted
     ensures { λ r. ⌜ r ≡ aliveAnswer state (now (packet .entry)) ⌝ }

@@ -3,14 +3,14 @@ ghost use mathlib.Core.Path.{_≡_};
 ghost use mathlib.Core.Bool.{cond};
 ghost use Prim.Native.Nat.{_+_, _-_, _*_, _^_, _<_};
 ghost use Rattle.rules.specs.Clock.{drops as dropsAt, dies as diesAt, aged as agedAt, clockAnswer};
-ghost use Rattle.rules.specs.State.{noMessage, noHeard};
-use rules::Address;
-use rules::Heard;
-use rules::Message;
-use rules::Receiver;
-use rules::Sender;
+ghost use Rattle.state.specs.State.{noMessage, noHeard};
 use rules::answers::Call;
 use rules::answers::Ticked;
+use state::Address;
+use state::Heard;
+use state::Message;
+use state::Receiver;
+use state::Sender;
 
 pub fn clock(mut state: Receiver, now: u64) -> Ticked
     ensures { λ r. ⌜ r ≡ clockAnswer state now ⌝ }

@@ -17,17 +17,17 @@ use print::answers::call_line;
 use print::answers::clock_line;
 use print::answers::message_line;
 use print::answers::question_line;
-use print::state::state_lines;
+use print::record::state_lines;
 use print::sum;
 use print::title;
 use question::question;
 use receiver::message::message;
 use receiver::part::part;
-use rules::Address;
-use rules::Receiver;
 use rules::answers::Answer;
 use rules::answers::Setup;
 use setup::setup;
+use state::Address;
+use state::Receiver;
 
 // The octets in front of a field's contents: its tag and its length.
 pub(crate) const HEAD: usize = 3;

@@ -7,11 +7,11 @@ use octets::read4;
 use octets::read8;
 use ring::Number;
 use ring::Version;
-use rules::Heard;
-use rules::Last;
-use rules::Message;
-use rules::Receiver;
-use rules::Sender;
+use state::Heard;
+use state::Last;
+use state::Message;
+use state::Receiver;
+use state::Sender;
 
 pub(crate) fn with_settings(mut w: Receiver, contents: &[u8]) -> Receiver {
     w.test = read1(contents, 0) == 1;

@@ -12,7 +12,7 @@ use calls::look;
 use io::read_full;
 use libc::STDIN_FILENO;
 use octets::read2;
-use rules::Receiver;
+use state::Receiver;
 
 fn main() {
     // "The storage: 262,144 octets (16 × 16,384)."

@@ -1,14 +1,14 @@
 -- "The program reads tagged fields: tag octet, two-octet length, contents; its own numbers have the high octet first."
-use Prim.Native.Nat.{ℕ, _+_, _*_}
+use Prim.Native.Nat.{ℕ, _+_}
 use mathlib.Core.Bool.{Bool, true, false, cond, _&&_, _||_}
 use mathlib.Core.List.{List}
 use lib.Dec.{eqb, ltb}
 use lib.ListN.{length, set, replicate}
 use Rattle.octets.specs.Number.{number}
 use Rattle.octets.specs.Run.{run}
-use Rattle.rules.specs.declared.Address.{Address}
+use Rattle.state.specs.declared.Address.{Address}
 use Rattle.rules.specs.declared.answers.Setup.{Setup}
-use Rattle.rules.specs.State.{noAddress}
+use Rattle.state.specs.State.{noAddress}
 use Rattle.fields.specs.declared.cutting.Kind.{Kind}
 use Rattle.fields.specs.declared.cutting.Kind.the-variants as kind
 use Rattle.fields.specs.declared.cutting.Next.{Next}

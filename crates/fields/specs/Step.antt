@@ -1,11 +1,11 @@
 -- One field of a run: what it does to the state and the storage, and the line that it gives.
-use Prim.Native.Nat.{ℕ, _+_, _*_, min}
-use mathlib.Core.Bool.{Bool, true, false, cond}
+use Prim.Native.Nat.{ℕ, _*_, min}
+use mathlib.Core.Bool.{true, false, cond}
 use mathlib.Core.List.{List}
 use lib.Dec.{eqb}
 use lib.ListN.{length}
 use Rattle.ring.specs.Check.{verdictNumber}
-use Rattle.rules.specs.declared.Receiver.{Receiver}
+use Rattle.state.specs.declared.Receiver.{Receiver}
 use Rattle.rules.specs.declared.answers.Answer.{Answer}
 use Rattle.rules.specs.declared.answers.Noted.{Noted}
 use Rattle.rules.specs.declared.answers.Outcome.{Outcome}

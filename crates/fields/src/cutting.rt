@@ -9,8 +9,8 @@ use octets::read1;
 use octets::read2;
 use octets::read4;
 use octets::read8;
-use rules::Address;
 use rules::answers::Setup;
+use state::Address;
 
 // The octets in front of a field's contents: its tag and its length.
 pub const HEAD: usize = 3;

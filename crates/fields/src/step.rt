@@ -25,10 +25,10 @@ use lines::Line;
 use octets::read2;
 use receiver::message::message;
 use receiver::part::part;
-use rules::Receiver;
 use rules::answers::Call;
 use rules::answers::Outcome;
 use setup::setup;
+use state::Receiver;
 
 pub struct Step {
     pub state: Receiver,

@@ -5,8 +5,8 @@ use mathlib.Core.List.{List, _++_, append-assoc}
 use Prim.Native.Nat.{ℕ, _+_, _-_, _≤_, _<_}
 use native.Mathlib.Nat.{add-assoc}
 use native.Mathlib.Omega.{arith}
-use lib.ListN.{length, take, drop, length-append, length-take, length-drop, List·getD-append}
-use lib.Seq.{length-take-le, getD-append-add, getD-take, getD-drop, take-add, paste, take-length, take-at, drop-at, drop-drop, drop-append-seam}
+use lib.ListN.{length, take, drop, take-append-drop, length-append, length-take, length-drop, List·getD-append}
+use lib.Seq.{drop-append-le, take-append-le, take-append-seam, take-take, length-take-le, getD-append-add, getD-take, getD-drop, take-add, paste, take-length, take-at, drop-at, drop-drop, drop-append-seam}
 use borrow.Author.Tests.{le-leb, lt-leb}
 use Rattle.octets.specs.Number.{octet}
 use Rattle.octets.specs.Run.{run, laid}
@@ -102,3 +102,87 @@ laid-on s at p q h =
     = laid-fits s at (p ++ q) (omega arith) ∙ rw (both, append-assoc p q rest) in
     laid-fits (laid s at p) (at + length p) q (omega (arith, length-laid s at p))
     ∙ rw (before, behind, whole) (append-assoc (take at s) p (q ++ rest))
+
+-- A run, taken the other way round.
+run-drop : (at n : ℕ) (s : List ℕ) → at ≤ length s → run at n s ≡ drop at (take (at + n) s)
+unfolding run
+run-drop at n s h = sym (ap (drop at) (take-add at n s) ∙ drop-at (take at s) (take n (drop at s)) at (length-take-le at s h))
+
+module _ (s : List ℕ) (at : ℕ) (p : List ℕ) (fits : at + length p ≤ length s) where
+  drop-laid : drop at (laid s at p) ≡ p ++ drop (at + length p) s
+  drop-laid = ap (drop at) (laid-fits s at p fits) ∙ drop-at (take at s) (p ++ drop (at + length p) s) at (length-take-le at s (omega arith))
+
+  -- What was laid down reads back.
+  pub run-laid : run at (length p) (laid s at p) ≡ p
+  unfolding run
+  run-laid = rw drop-laid (take-append-seam p (drop (at + length p) s))
+
+  take-laid : (n : ℕ) → n ≤ at → take n (laid s at p) ≡ take n s
+  take-laid n h =
+      let g : n ≤ length (take at s) = rw length-take (omega arith) in
+      ap (take n) (laid-fits s at p fits) ∙ take-append-le n (take at s) (p ++ drop (at + length p) s) g ∙ take-take n at s h
+
+  -- A run that ends before it stays,
+  pub run-before : (b n : ℕ) → b + n ≤ at → run b n (laid s at p) ≡ run b n s
+  run-before b n h =
+      run-drop b n (laid s at p) (rw length-laid (omega arith)) ∙ ap (drop b) (take-laid (b + n) h) ∙ sym (run-drop b n s (omega arith))
+
+  -- and so does one that starts behind it.
+  pub run-behind : (b n : ℕ) → at + length p ≤ b → run b n (laid s at p) ≡ run b n s
+  unfolding run
+  run-behind b n h =
+      let more = b - (at + length p) in
+      let e : b ≡ at + length p + more = omega arith in
+      ap (take n)
+      (ap (λ (x : ℕ). drop x (laid s at p)) e ∙ sym (drop-drop more (at + length p) (laid s at p))
+      ∙ ap (drop more) (laid-drop s at p fits) ∙ drop-drop more (at + length p) s ∙ ap (λ (x : ℕ). drop x s) (sym e))
+
+-- A run of a run.
+pub run-run : (at n b k : ℕ) (s : List ℕ) → b + k ≤ n → at + n ≤ length s → run b k (run at n s) ≡ run (at + b) k s
+unfolding run
+run-run at n b k s h room =
+    let r : b ≤ length (take n (drop at s)) = simp (length-take, length-drop) (omega arith) in
+    let q : b ≤ length (drop at s) = simp length-drop (omega arith) in
+    let part = take n (drop at s) in
+    run-drop b k part r ∙ ap (drop b) (take-take (b + k) n (drop at s) h) ∙ sym (run-drop b k (drop at s) q) ∙ ap (take k) (drop-drop b at s)
+
+-- ---- a run laid down within a run
+
+head-in : (s : List ℕ) (at n b : ℕ) → b ≤ n → take at s ++ take b (run at n s) ≡ take (at + b) s
+unfolding run
+head-in s at n b h = rw (take-take b n (drop at s) h) (sym (take-add at b s))
+
+tail-in : (s : List ℕ) (at n c : ℕ) → at + n ≤ length s → c ≤ n → drop c (run at n s) ++ drop (at + n) s ≡ drop (at + c) s
+unfolding run
+tail-in s at n c room h =
+    let e : c ≤ length (take n (drop at s)) = simp (length-take, length-drop) (omega arith) in
+    ap (λ (x : List ℕ). drop c (take n (drop at s)) ++ x) (sym (drop-drop n at s))
+    ∙ sym (drop-append-le c (take n (drop at s)) (drop n (drop at s)) e)
+    ∙ ap (drop c) (take-append-drop n (drop at s)) ∙ drop-drop c at s
+
+laid-within : (s : List ℕ) (at n b : ℕ) (p : List ℕ) → at + n ≤ length s → b + length p ≤ n → laid s at (laid (run at n s) b p) ≡ laid s (at + b) p
+laid-within s at n b p room h =
+    let r = run at n s in
+    let e : length r ≡ n = length-run at n s room in
+    let f : length (laid r b p) ≡ n = length-laid r b p ∙ e in
+    let z : at + (b + length p) ≡ at + b + length p = omega arith in
+    let inner : laid r b p ≡ take b r ++ (p ++ drop (b + length p) r) = laid-fits r b p (omega arith) in
+    laid-fits s at (laid r b p) (omega arith)
+    ∙ rw (
+      f,
+      inner,
+      append-assoc (take b r) (p ++ drop (b + length p) r) (drop (at + n) s),
+      append-assoc p (drop (b + length p) r) (drop (at + n) s),
+      tail-in s at n (b + length p) room h,
+      ← append-assoc (take at s) (take b r) (p ++ drop (at + (b + length p)) s),
+      head-in s at n b (omega arith),
+      z,
+    ) (sym (laid-fits s (at + b) p (omega arith)))
+
+-- What is laid down within a run is laid down in the run.
+pub run-laid-within : (s : List ℕ) (at n b : ℕ) (p : List ℕ) → at + n ≤ length s → b + length p ≤ n → run at n (laid s (at + b) p) ≡ laid (run at n s) b p
+run-laid-within s at n b p room h =
+    let x = laid (run at n s) b p in
+    let f : length x ≡ n = length-laid (run at n s) b p ∙ length-run at n s room in
+    let back : run at (length x) (laid s at x) ≡ x = run-laid s at x (omega arith) in
+    ap (run at n) (sym (laid-within s at n b p room h)) ∙ ap (λ (k : ℕ). run at k (laid s at x)) (sym f) ∙ back

@@ -6,7 +6,7 @@ ghost use mathlib.Core.Path.{_≡_};
 ghost use Rattle.print.specs.Sum.{step, sumOf};
 
 pub mod answers;
-pub mod state;
+pub mod record;
 
 // "the title stands there as on this page"
 pub fn title(octets: &[u8]) {

@@ -17,13 +17,13 @@ use header::codes::is_pri;
 use header::is_fixed;
 use header::read_head;
 use octets::lay;
-use rules::Receiver;
 use rules::answers::Answer;
 use rules::answers::Dropped;
 use rules::answers::Outcome;
 use rules::answers::Where;
-use rules::source;
 use sender::admit;
+use state::Receiver;
+use state::source;
 
 pub fn message(mut state: Receiver, storage: &mut [u8], packet: &[u8]) -> Answer
     ensures answer { λ r. ⌜ r ≡ messageAnswer state (length (now (storage .entry))) (now (packet .entry)) ⌝ }

@@ -10,16 +10,16 @@ use Rattle.ring.specs.Check.{check, isRepeat, isUnchecked}
 use Rattle.ring.specs.Ring.{newer}
 use Rattle.header.specs.declared.Head.{Head}
 use Rattle.cut.specs.Possible.{possible, unit, messageLength}
-use Rattle.rules.specs.declared.Last.{Last}
-use Rattle.rules.specs.declared.Message.{Message}
-use Rattle.rules.specs.declared.Sender.{Sender}
+use Rattle.state.specs.declared.Last.{Last}
+use Rattle.state.specs.declared.Message.{Message}
+use Rattle.state.specs.declared.Sender.{Sender}
 use Rattle.rules.specs.declared.answers.Admission.{Admission}
 use Rattle.rules.specs.declared.answers.Dropped.{Dropped}
 use Rattle.rules.specs.declared.answers.Outcome.{Outcome}
 use Rattle.rules.specs.declared.answers.Outcome.the-variants.{Refused, Stored, Delivered}
 use Rattle.rules.specs.First.{Row, row, first}
-use Rattle.rules.specs.Map.{holds, pieceBit, fullMap}
-use Rattle.rules.specs.State.{noMessage}
+use Rattle.state.specs.Map.{holds, pieceBit, fullMap}
+use Rattle.state.specs.State.{noMessage}
 
 -- ---- the open message and the PDU
 

@@ -10,14 +10,14 @@ use Rattle.ring.specs.Check.{isRepeat}
 use Rattle.header.specs.declared.Head.{Head}
 use Rattle.cut.specs.Possible.{possible}
 use Rattle.cut.specs.PossibleLaws.{possible-facts, possible-most}
-use Rattle.rules.specs.declared.Sender.{Sender}
+use Rattle.state.specs.declared.Sender.{Sender}
 use Rattle.rules.specs.declared.answers.Admission.{Admission}
 use Rattle.rules.specs.declared.answers.Outcome.{Outcome}
 use Rattle.rules.specs.Admit.{rejoins, sameCut, verdictOf, senderRows, mapAfter, fills, admitted, notAdmitted, admission, refusedNumber}
 use Rattle.rules.specs.First.{first}
 use Rattle.rules.specs.FirstLaws.{first-none}
-use Rattle.rules.specs.Map.{holds, marked}
-use Rattle.rules.specs.MapLaws.{marked-adds, holds-zero}
+use Rattle.state.specs.Map.{holds, marked}
+use Rattle.state.specs.MapLaws.{marked-adds, holds-zero}
 
 -- An admitted PDU has a possible cut, is no repeat, is not older than the open message, has its cut if it belongs to it, and
 -- is a new piece of it.

@@ -14,14 +14,14 @@ use Rattle.header.specs.declared.Head.{Head}
 use Rattle.header.specs.Codes.{isUser}
 use Rattle.cut.specs.Possible.{unit, messageLength}
 use Rattle.cut.specs.PossibleLaws.{possible-facts, possible-several, several-of}
-use Rattle.rules.specs.declared.Last.{Last}
-use Rattle.rules.specs.declared.Sender.{Sender}
+use Rattle.state.specs.declared.Last.{Last}
+use Rattle.state.specs.declared.Sender.{Sender}
 use Rattle.rules.specs.Admit.{rejoins, sameCut, verdictOf, mapAfter, fills, lastBy, closed, messageOf, opened, senderAfter}
 use Rattle.rules.specs.AdmitLaws.{Admitted}
-use Rattle.rules.specs.Limits.{lastWithin}
-use Rattle.rules.specs.Map.{fullMap, pieceBit}
-use Rattle.rules.specs.MapLaws.{bit-zero, set-below, holds-not}
-use Rattle.rules.specs.WithinLaws.{MessageWithin, message-facts, message-of, SenderWithin, Stays}
+use Rattle.state.specs.Limits.{lastWithin}
+use Rattle.state.specs.Map.{fullMap, pieceBit}
+use Rattle.state.specs.MapLaws.{bit-zero, set-below, holds-not}
+use Rattle.state.specs.WithinLaws.{MessageWithin, message-facts, message-of, SenderWithin, Stays}
 
 -- A number that 13 lets pass is within the limits of a last number, under any version.
 number-last : (v n : ℕ) → isNumber n ≡ true → lastWithin (record { version = record { 0 = v }; number = record { 0 = n } }) ≡ true

@@ -3,12 +3,12 @@
 use mathlib.Core.Path.{_≡_}
 use mathlib.Core.Bool.{cond}
 use Prim.Native.Nat.{ℕ, _≤_, _<_}
-use Rattle.rules.specs.declared.Sender.{Sender}
-use Rattle.rules.specs.declared.Receiver.{Receiver}
+use Rattle.state.specs.declared.Sender.{Sender}
+use Rattle.state.specs.declared.Receiver.{Receiver}
 use Rattle.rules.specs.declared.answers.Answer.{Answer}
 use Rattle.rules.specs.declared.answers.Noted.{Noted}
 use Rattle.rules.specs.declared.answers.Ticked.{Ticked}
-use Rattle.rules.specs.State.{noMessage, noHeard, noSender, senderAt}
+use Rattle.state.specs.State.{noMessage, noHeard, noSender, senderAt}
 
 -- What is looked at of a sender: not "the record of a message not open", nor "the stamp and al_tm_out of a sender not alive".
 unfoldable pub seen : Sender → Sender

@@ -13,9 +13,9 @@ use Rattle.octets.specs.Split.{eq-or-ne}
 use Rattle.header.specs.declared.Head.{Head}
 use Rattle.header.specs.Alive.{bodyOf}
 use Rattle.header.specs.Head.{headOf}
-use Rattle.rules.specs.declared.Message.{Message}
-use Rattle.rules.specs.declared.Sender.{Sender}
-use Rattle.rules.specs.declared.Receiver.{Receiver}
+use Rattle.state.specs.declared.Message.{Message}
+use Rattle.state.specs.declared.Sender.{Sender}
+use Rattle.state.specs.declared.Receiver.{Receiver}
 use Rattle.rules.specs.declared.answers.Missing.{Missing}
 use Rattle.rules.specs.declared.answers.Missing.the-variants.{Piece}
 use Rattle.rules.specs.declared.answers.Outcome.{Outcome}
@@ -28,15 +28,16 @@ use Rattle.rules.specs.QuestionLaws.{first-holds}
 use Rattle.rules.specs.ClockLaws.{aged-done, withSenders}
 use Rattle.rules.specs.First.{first}
 use Rattle.rules.specs.FirstLaws.{first-none, first-behind, numbered}
-use Rattle.rules.specs.Limits.{senderWithin, addressAt, sendersWithin, valid}
-use Rattle.rules.specs.LimitsLaws.{new-ext}
-use Rattle.rules.specs.Map.{lowestMissing}
-use Rattle.rules.specs.Message.{found, packetRows, messageRows, messageNumber, whereBy, withSender, taken, refused, messageAnswer, messageStorage}
+use Rattle.state.specs.Limits.{senderWithin, addressAt, sendersWithin, valid}
+use Rattle.state.specs.LimitsLaws.{new-ext}
+use Rattle.state.specs.Map.{lowestMissing}
+use Rattle.state.specs.Table.{found}
+use Rattle.rules.specs.Message.{packetRows, messageRows, messageNumber, whereBy, withSender, taken, refused, messageAnswer, messageStorage}
 use Rattle.rules.specs.MessageLaws.{passed-facts, taken-facts}
 use Rattle.rules.specs.Question.{firstOpen, missingOf, questionAnswer}
-use Rattle.rules.specs.State.{noSender, senderAt, firstWhere}
+use Rattle.state.specs.State.{noSender, senderAt, firstWhere}
 use Rattle.rules.specs.SeenLaws.{LooksAtSeen, looks-same, ChangesSeen, changes-same, looks-address, looks-open, looks-message, looks-within, looks-drops, looks-dies, changes-aged, changes-heard, looks-rows, looks-dropped, looks-held, looks-outcome, changes-after}
-use Rattle.rules.specs.WithinLaws.{valid-length}
+use Rattle.state.specs.WithinLaws.{valid-length}
 
 -- What holds between the arms of two branches on one test holds between the branches.
 cond-two : {A : Type 0} (R : A → A → Type 0) (b : Bool) (x y p q : A) → (b ≡ true → R x p) → (b ≡ false → R y q) → R (cond b x y) (cond b p q)

@@ -11,15 +11,16 @@ use Rattle.header.specs.Alive.{bodyOf, isBody, groupOf}
 use Rattle.header.specs.AlivePlaces.{aliveSize}
 use Rattle.header.specs.Codes.{isAlive, isMode, isPri}
 use Rattle.header.specs.Head.{headOf, isFixed}
-use Rattle.rules.specs.declared.Heard.{Heard}
-use Rattle.rules.specs.declared.Sender.{Sender}
-use Rattle.rules.specs.declared.Receiver.{Receiver}
+use Rattle.state.specs.declared.Heard.{Heard}
+use Rattle.state.specs.declared.Sender.{Sender}
+use Rattle.state.specs.declared.Receiver.{Receiver}
 use Rattle.rules.specs.declared.answers.Call.the-variants.{Done, Refused}
 use Rattle.rules.specs.declared.answers.Noted.{Noted}
 use Rattle.rules.specs.First.{Row, row, first}
-use Rattle.rules.specs.Limits.{valid}
-use Rattle.rules.specs.Message.{found, lengthOutside, withSender}
-use Rattle.rules.specs.State.{senderAt, noHeard}
+use Rattle.state.specs.Limits.{valid}
+use Rattle.state.specs.Table.{found}
+use Rattle.rules.specs.Message.{lengthOutside, withSender}
+use Rattle.state.specs.State.{senderAt, noHeard}
 
 -- ---- the numbers
 

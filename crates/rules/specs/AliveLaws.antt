@@ -13,16 +13,16 @@ use Rattle.header.specs.declared.Head.{Head}
 use Rattle.header.specs.declared.signal.Body.{Body}
 use Rattle.header.specs.Alive.{bodyOf}
 use Rattle.header.specs.Head.{headOf}
-use Rattle.rules.specs.declared.Address.{Address}
-use Rattle.rules.specs.declared.Look.{Look}
-use Rattle.rules.specs.declared.Receiver.{Receiver}
+use Rattle.state.specs.declared.Address.{Address}
+use Rattle.state.specs.declared.Look.{Look}
+use Rattle.state.specs.declared.Receiver.{Receiver}
 use Rattle.rules.specs.Alive.{aliveLengthWrong, aliveHeadWithin, signalRows, aliveRows, noted, notNoted, aliveAnswer}
 use Rattle.rules.specs.First.{first}
 use Rattle.rules.specs.FirstLaws.{first-here, first-none}
-use Rattle.rules.specs.Limits.{sendersMost, valid}
-use Rattle.rules.specs.LimitsLaws.{valid-count}
-use Rattle.rules.specs.Message.{source, found, lookAt}
-use Rattle.rules.specs.MessageLaws.{look-valid, look-place}
+use Rattle.state.specs.Limits.{sendersMost, valid}
+use Rattle.state.specs.LimitsLaws.{valid-count}
+use Rattle.state.specs.Table.{source, found, lookAt}
+use Rattle.state.specs.TableLaws.{look-valid, look-place}
 
 -- Where no number applies the state is valid and the sender registered.
 pub signal-facts : (ok : Bool) (count i : ℕ) (packet : List ℕ) (h : Head) (b : Body) → first (signalRows ok count i packet h b) ≡ 0 → (ok ≡ true) × (i < count)

@@ -18,15 +18,16 @@ use Rattle.header.specs.Head.{headOf}
 use Rattle.header.specs.Places.{headerSize}
 use Rattle.cut.specs.Possible.{place, ownLength}
 use Rattle.cut.specs.PossibleLaws.{possible-facts, possible-within}
-use Rattle.rules.specs.declared.Sender.{Sender}
-use Rattle.rules.specs.declared.Receiver.{Receiver}
+use Rattle.state.specs.declared.Sender.{Sender}
+use Rattle.state.specs.declared.Receiver.{Receiver}
 use Rattle.rules.specs.declared.answers.Answer.{Answer}
 use Rattle.rules.specs.declared.answers.Noted.{Noted}
 use Rattle.rules.specs.Alive.{aliveRows, aliveAnswer}
 use Rattle.rules.specs.First.{first}
-use Rattle.rules.specs.Message.{area, found, messageNumber, storageAfter, withSender, taken, refused, messageAnswer, messageStorage}
+use Rattle.rules.specs.Message.{area, messageNumber, storageAfter, withSender, taken, refused, messageAnswer, messageStorage}
+use Rattle.state.specs.Table.{found}
 use Rattle.rules.specs.MessageLaws.{taken-facts}
-use Rattle.rules.specs.State.{noSender, senderAt}
+use Rattle.state.specs.State.{noSender, senderAt}
 
 -- ---- storage
 

@@ -4,13 +4,13 @@ use mathlib.Core.Bool.{Bool, not, cond, _&&_, _||_}
 use mathlib.Core.List.{List, [], _∷_}
 use lib.Dec.{eqb, leb, ltb}
 use lib.ListN.{getD, set}
-use Rattle.rules.specs.declared.Sender.{Sender}
-use Rattle.rules.specs.declared.Receiver.{Receiver}
+use Rattle.state.specs.declared.Sender.{Sender}
+use Rattle.state.specs.declared.Receiver.{Receiver}
 use Rattle.rules.specs.declared.answers.Call.the-variants.{Done, Refused}
 use Rattle.rules.specs.declared.answers.Ticked.{Ticked}
 use Rattle.rules.specs.First.{Row, row, first}
-use Rattle.rules.specs.Limits.{valid, clockMost}
-use Rattle.rules.specs.State.{noMessage, noHeard, noSender}
+use Rattle.state.specs.Limits.{valid, clockMost}
+use Rattle.state.specs.State.{noMessage, noHeard, noSender}
 
 -- "21: clock back or above its limit"
 abbrev pub clockRows : Receiver → ℕ → List Row

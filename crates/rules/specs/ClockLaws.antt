@@ -11,15 +11,15 @@ use lib.ListN.{length, getD, set, length-set}
 use lib.Pow.{pow-mono, pow-lt}
 use lib.Seq.{getD-set-other}
 use Rattle.octets.specs.Split.{cond-case}
-use Rattle.rules.specs.declared.Sender.{Sender}
-use Rattle.rules.specs.declared.Receiver.{Receiver}
+use Rattle.state.specs.declared.Sender.{Sender}
+use Rattle.state.specs.declared.Receiver.{Receiver}
 use Rattle.rules.specs.declared.answers.Call.the-variants.{Done}
 use Rattle.rules.specs.Clock.{clockRows, drops, dies, aged, agedSenders, mapWhere, ticked, notTicked, clockAnswer}
 use Rattle.rules.specs.First.{row, first}
 use Rattle.rules.specs.FirstLaws.{first-here, first-later}
-use Rattle.rules.specs.Limits.{valid, clockMost}
-use Rattle.rules.specs.State.{noSender}
-use Rattle.rules.specs.WithinLaws.{written-place}
+use Rattle.state.specs.Limits.{valid, clockMost}
+use Rattle.state.specs.State.{noSender}
+use Rattle.state.specs.WithinLaws.{written-place}
 
 pub length-aged : (t now : ℕ) (l : List Sender) (k : ℕ) → length (agedSenders t now l k) ≡ length l
 unfolding agedSenders

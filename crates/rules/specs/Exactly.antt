@@ -11,7 +11,7 @@ use lib.ListN.{length}
 use borrow.Author.Tests.{ne-eqb}
 use Rattle.octets.specs.Split.{cond-case, never-both}
 use Rattle.header.specs.Head.{headOf}
-use Rattle.rules.specs.declared.Receiver.{Receiver}
+use Rattle.state.specs.declared.Receiver.{Receiver}
 use Rattle.rules.specs.declared.answers.Call.{Call}
 use Rattle.rules.specs.declared.answers.Call.the-variants as call
 use Rattle.rules.specs.declared.answers.Missing.{Missing}
@@ -25,10 +25,11 @@ use Rattle.rules.specs.Alive.{aliveRows, notNoted, aliveAnswer}
 use Rattle.rules.specs.Clock.{clockRows, ticked, notTicked, clockAnswer}
 use Rattle.rules.specs.First.{Row, first}
 use Rattle.rules.specs.FirstLaws.{numbered, Given, given-first, first-given, given-some, above, rises}
-use Rattle.rules.specs.Message.{found, messageRows, taken, refused, messageAnswer, messageStorage}
+use Rattle.state.specs.Table.{found}
+use Rattle.rules.specs.Message.{messageRows, taken, refused, messageAnswer, messageStorage}
 use Rattle.rules.specs.Question.{questionRows, firstOpen, missingOf, missingNumber, questionAnswer}
 use Rattle.rules.specs.Setup.{setupWithin, setupState, setupAnswer, callNumber}
-use Rattle.rules.specs.State.{senderAt, emptyReceiver}
+use Rattle.state.specs.State.{senderAt, emptyReceiver}
 
 -- ---- for every call
 

@@ -1,8 +1,3 @@
-pub mod State
-pub mod Map
-pub mod MapLaws
-pub mod Limits
-pub mod LimitsLaws
 pub mod First
 pub mod FirstLaws
 pub mod Setup
@@ -19,7 +14,6 @@ pub mod AliveLaws
 pub mod Question
 pub mod QuestionLaws
 pub mod Exactly
-pub mod WithinLaws
 pub mod AdmitValid
 pub mod ValidLaws
 pub mod Changes
@@ -27,3 +21,11 @@ pub mod Alike
 pub mod SeenLaws
 pub mod AlikeLaws
 pub mod ZeroedLaws
+pub mod Past
+pub mod PastLaws
+pub mod View
+pub mod ViewLaws
+pub mod Join
+pub mod JoinLaws
+pub mod SafeLaws
+pub mod Accepted

@@ -11,10 +11,8 @@ use Rattle.header.specs.Codes.{isUser, isMode, isPri}
 use Rattle.header.specs.Head.{headOf, isFixed}
 use Rattle.header.specs.Places.{headerSize}
 use Rattle.cut.specs.Possible.{place, messageLength, ownLength}
-use Rattle.rules.specs.declared.Address.{Address}
-use Rattle.rules.specs.declared.Look.{Look}
-use Rattle.rules.specs.declared.Sender.{Sender}
-use Rattle.rules.specs.declared.Receiver.{Receiver}
+use Rattle.state.specs.declared.Sender.{Sender}
+use Rattle.state.specs.declared.Receiver.{Receiver}
 use Rattle.rules.specs.declared.answers.Answer.{Answer}
 use Rattle.rules.specs.declared.answers.Outcome.{Outcome}
 use Rattle.rules.specs.declared.answers.Outcome.the-variants.{Refused, Stored, Delivered}
@@ -22,29 +20,13 @@ use Rattle.rules.specs.declared.answers.Where.{Where}
 use Rattle.rules.specs.declared.answers.Where.the-variants.{Nothing, Packet, Storage}
 use Rattle.rules.specs.Admit.{senderRows, admitted, noneDropped}
 use Rattle.rules.specs.First.{Row, row, first}
-use Rattle.rules.specs.Limits.{valid, sameAddress, sendersMost}
-use Rattle.rules.specs.State.{senderAt, firstWhere}
+use Rattle.state.specs.Limits.{valid}
+use Rattle.state.specs.State.{senderAt}
+use Rattle.state.specs.Table.{found}
 
 -- "The storage is exactly 16,384 octets for each sender, in table order."
 abbrev pub area : ℕ
 area = 16384
-
--- ---- which sender
-
--- Where a PDU comes from.
-abbrev pub source : Head → Address
-source h = record { field = h .given .field; node = h .given .node }
-
--- The first of the first k senders with this address; k where none has it.
-abbrev pub find : List Sender → Address → ℕ → ℕ
-find l a k = firstWhere (λ s. sameAddress (s .address) a) l k
-
-abbrev pub found : Receiver → Head → ℕ
-found w h = find (w .senders) (source h) (w .count)
-
--- What one pass over the table finds. Past 16 senders no place is looked for.
-unfoldable pub lookAt : Receiver → Address → Look
-lookAt w a = record { valid = valid w; at = cond (leb (w .count) sendersMost) (find (w .senders) a (w .count)) 0 }
 
 -- ---- the numbers
 

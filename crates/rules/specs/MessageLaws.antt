@@ -1,22 +1,20 @@
--- Laws of the message call: one pass over the table, and what is answered by what the judges found. Assumes nothing.
+-- Laws of the message call: what is answered by what the judges found. Assumes nothing.
 use mathlib.Core.Path.{_≡_, refl, sym, ap, _∙_}
 use mathlib.Core.Logic.{⊎-elim}
-use mathlib.Core.Bool.{Bool, true, false, not, cond, _&&_, _||_}
+use mathlib.Core.Bool.{Bool, true, false, not, cond, _||_}
 use mathlib.Core.List.{List}
-use Prim.Native.Nat.{ℕ, _+_, _*_, _≤_, _<_}
-use native.Mathlib.Numerals.{add-one}
+use Prim.Native.Nat.{ℕ, _*_, _≤_, _<_}
 use native.Mathlib.Omega.{arith}
 use lib.Dec.{eqb, leb, ltb}
 use lib.ListN.{length}
-use borrow.Author.Tests.{le-leb, leb-false, ltb-false, eqb-true, ne-eqb, not-false}
+use borrow.Author.Tests.{leb-false, ltb-false, eqb-true, ne-eqb, not-false}
 use Rattle.octets.specs.Split.{true-or-false, never-both}
 use Rattle.header.specs.declared.Head.{Head}
 use Rattle.header.specs.Head.{headOf}
 use Rattle.header.specs.Places.{headerSize}
-use Rattle.rules.specs.declared.Address.{Address}
-use Rattle.rules.specs.declared.Look.{Look}
-use Rattle.rules.specs.declared.Sender.{Sender}
-use Rattle.rules.specs.declared.Receiver.{Receiver}
+use Rattle.state.specs.declared.Address.{Address}
+use Rattle.state.specs.declared.Look.{Look}
+use Rattle.state.specs.declared.Receiver.{Receiver}
 use Rattle.rules.specs.declared.answers.Admission.{Admission}
 use Rattle.rules.specs.declared.answers.Answer.{Answer}
 use Rattle.rules.specs.declared.answers.Where.{Where}
@@ -24,33 +22,12 @@ use Rattle.rules.specs.Admit.{senderRows, admission, admitted, refusedNu
 use Rattle.rules.specs.AdmitLaws.{Admitted, admitted-facts, admission-yes, admission-number}
 use Rattle.rules.specs.First.{first}
 use Rattle.rules.specs.FirstLaws.{first-here, first-none, first-append, first-neither, numbered}
-use Rattle.rules.specs.Limits.{sameAddress, addressAt, sendersMost, settingsWithin, sendersWithin, valid}
-use Rattle.rules.specs.LimitsLaws.{valid-count}
-use Rattle.rules.specs.Message.{area, source, find, found, lookAt, lengthWrong, headWithin, packetRows, messageRows, messageNumber, storageAfter, whereBy, withSender, taken, refused, messageAnswer, messageStorage}
-use Rattle.rules.specs.State.{senderAt, firstWhere}
-
-pub find-more : (l : List Sender) (a : Address) (i at : ℕ) (here : Bool) → at ≡ find l a i → here ≡ sameAddress (addressAt l i) a
-    → cond (ltb at i) at (cond here i (i + 1)) ≡ find l a (i + 1)
-unfolding firstWhere
-find-more l a i at here e f = rw (e, f, add-one i)
-
--- A state with few enough senders, after the whole pass.
-pub look-few : (w : Receiver) (a : Address) (settings all : Bool) (i at : ℕ) → w .count ≤ sendersMost → i ≡ w .count
-    → settings ≡ settingsWithin w → all ≡ settings && sendersWithin (w .clock) (w .senders) i → at ≡ find (w .senders) a i
-    → record { valid = all; at = at } ≡ lookAt w a
-unfolding lookAt valid
-look-few w a settings all i at few e s v f = rw (le-leb (w .count) sendersMost few, v, s, f, e)
-
-pub look-valid : (w : Receiver) (a : Address) (l : Look) → l ≡ lookAt w a → l .valid ≡ valid w
-unfolding lookAt
-look-valid w a l e = rw e
-
--- The pass finds the sender's place in every state that is within its limits, and in no other is it asked for.
-pub look-place : (w : Receiver) (h : Head) (l : Look) → l ≡ lookAt w (source h) → l .valid ≡ true → l .at ≡ found w h
-unfolding lookAt
-look-place w h l e v =
-    let few : w .count ≤ sendersMost = valid-count w (rw e at v) in
-    rw (e, le-leb (w .count) sendersMost few)
+use Rattle.state.specs.Limits.{sendersMost, valid}
+use Rattle.state.specs.LimitsLaws.{valid-count}
+use Rattle.rules.specs.Message.{area, lengthWrong, headWithin, packetRows, messageRows, messageNumber, storageAfter, whereBy, withSender, taken, refused, messageAnswer, messageStorage}
+use Rattle.state.specs.Table.{source, found, lookAt}
+use Rattle.state.specs.State.{senderAt}
+use Rattle.state.specs.TableLaws.{look-valid, look-place}
 
 -- ---- the numbers before the sender's
 
@@ -60,6 +37,7 @@ pub record Passed (ok : Bool) (count i room : ℕ) (packet : List ℕ) (h : Head
   pub room-right : room ≡ count * area
   pub size : length packet ≡ h .cut .bsize
   pub size-least : headerSize ≤ length packet
+  pub length-right : lengthWrong (length packet) h ≡ false
   pub head-within : headWithin packet h ≡ true
   pub registered : i < count
 
@@ -81,6 +59,7 @@ passed-facts ok count i room packet h e =
       room-right = eqb-true room (count * area) (not-false (eqb room (count * area)) (r11 .0));
       size = eqb-true (length packet) (h .cut .bsize) (not-false (eqb (length packet) (h .cut .bsize)) (long .1));
       size-least = ltb-false (length packet) headerSize (short .0);
+      length-right = r12 .0;
       head-within = not-false (headWithin packet h) (r13 .0);
       registered = leb-false count i (r14 .0);
     }

@@ -6,16 +6,16 @@ use Prim.Native.Nat.{ℕ}
 use lib.Dec.{eqb}
 use Rattle.header.specs.declared.Head.{Head}
 use Rattle.header.specs.declared.signal.Body.{Body}
-use Rattle.rules.specs.declared.Address.{Address}
-use Rattle.rules.specs.declared.Last.{Last}
-use Rattle.rules.specs.declared.Message.{Message}
-use Rattle.rules.specs.declared.Heard.{Heard}
-use Rattle.rules.specs.declared.Sender.{Sender}
+use Rattle.state.specs.declared.Address.{Address}
+use Rattle.state.specs.declared.Last.{Last}
+use Rattle.state.specs.declared.Message.{Message}
+use Rattle.state.specs.declared.Heard.{Heard}
+use Rattle.state.specs.declared.Sender.{Sender}
 use Rattle.rules.specs.Admit.{rejoins, senderRows, mapAfter, fills, droppedBy, heldAfter, senderAfter, admitted}
 use Rattle.rules.specs.Alike.{seen}
 use Rattle.rules.specs.Alive.{heardBy}
 use Rattle.rules.specs.Clock.{drops, dies, aged}
-use Rattle.rules.specs.Limits.{senderWithin}
+use Rattle.state.specs.Limits.{senderWithin}
 
 -- ---- branches
 

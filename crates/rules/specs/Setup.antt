@@ -1,29 +1,20 @@
 -- Setup: "takes the node's mode (online or test), N1 (1 to 1,024), the drop time T in ms (1 to 600,000) and 1 to 16 senders, each a
 -- data field and a node, no pair twice".
 use Prim.Native.Nat.{ℕ, zero, suc}
-use mathlib.Core.Bool.{Bool, true, cond, _&&_}
+use mathlib.Core.Bool.{Bool, cond, _&&_}
 use mathlib.Core.List.{List}
 use lib.Dec.{eqb, leb}
-use lib.ListN.{getD, set, replicate}
+use lib.ListN.{set, replicate}
 use Rattle.header.specs.Codes.{within}
-use Rattle.rules.specs.declared.Address.{Address}
-use Rattle.rules.specs.declared.Sender.{Sender}
-use Rattle.rules.specs.declared.Receiver.{Receiver}
+use Rattle.state.specs.declared.Address.{Address}
+use Rattle.state.specs.declared.Sender.{Sender}
+use Rattle.state.specs.declared.Receiver.{Receiver}
 use Rattle.rules.specs.declared.answers.Call.{Call}
 use Rattle.rules.specs.declared.answers.Call.the-variants.{Done, Refused}
 use Rattle.rules.specs.declared.answers.Started.{Started}
 use Rattle.rules.specs.declared.answers.Setup.{Setup}
-use Rattle.rules.specs.Limits.{isN1, isDropTime, sendersMost, isAddress, newAmong}
-use Rattle.rules.specs.State.{noAddress, noSender, newSender, emptyReceiver}
-
--- The address at a place of what was given.
-abbrev pub given : List Address → ℕ → Address
-given l k = getD l k noAddress
-
--- The first k addresses are within their limits, and "no pair twice".
-unfoldable pub addressesWithin : List Address → ℕ → Bool
-addressesWithin l zero = true
-addressesWithin l (suc k) = addressesWithin l k && (isAddress (given l k) && newAmong (given l) k (given l k))
+use Rattle.state.specs.Limits.{isN1, isDropTime, sendersMost, given, addressesWithin}
+use Rattle.state.specs.State.{noSender, newSender, emptyReceiver}
 
 -- "Tag 1 setup: mode (1 octet: 0 online, 1 test, any other meets 10)"
 unfoldable pub setupWithin : Setup → Bool

@@ -15,9 +15,9 @@ use Rattle.header.specs.declared.signal.Body.{Body}
 use Rattle.header.specs.Alive.{bodyOf}
 use Rattle.header.specs.Codes.{within, isUser, isMode, isPri}
 use Rattle.header.specs.Head.{headOf, isFixed}
-use Rattle.rules.specs.declared.Address.{Address}
-use Rattle.rules.specs.declared.Sender.{Sender}
-use Rattle.rules.specs.declared.Receiver.{Receiver}
+use Rattle.state.specs.declared.Address.{Address}
+use Rattle.state.specs.declared.Sender.{Sender}
+use Rattle.state.specs.declared.Receiver.{Receiver}
 use Rattle.rules.specs.declared.answers.Answer.{Answer}
 use Rattle.rules.specs.declared.answers.Noted.{Noted}
 use Rattle.rules.specs.declared.answers.Setup.{Setup}
@@ -28,14 +28,15 @@ use Rattle.rules.specs.Alive.{heardBy, aliveRows, aliveAnswer}
 use Rattle.rules.specs.Clock.{drops, dies, aged, agedSenders, ticked, notTicked, clockAnswer}
 use Rattle.rules.specs.ClockLaws.{aged-done, clock-back, clock-on}
 use Rattle.rules.specs.First.{first}
-use Rattle.rules.specs.Limits.{clockMost, sendersMost, isN1, isDropTime, isAddress, lastWithin, senderWithin, addressAt, sendersWithin, settingsOf, settingsWithin, valid}
-use Rattle.rules.specs.LimitsLaws.{new-ext}
-use Rattle.rules.specs.Message.{found, headWithin, messageNumber, withSender, taken, refused, messageAnswer}
+use Rattle.state.specs.Limits.{clockMost, sendersMost, isN1, isDropTime, isAddress, lastWithin, senderWithin, addressAt, sendersWithin, settingsOf, settingsWithin, valid, given, addressesWithin}
+use Rattle.state.specs.LimitsLaws.{new-ext}
+use Rattle.state.specs.Table.{found}
+use Rattle.rules.specs.Message.{headWithin, messageNumber, withSender, taken, refused, messageAnswer}
 use Rattle.rules.specs.MessageLaws.{or-false, taken-facts}
-use Rattle.rules.specs.Setup.{given, addressesWithin, setupWithin, newSenders, setupState, setupAnswer}
+use Rattle.rules.specs.Setup.{setupWithin, newSenders, setupState, setupAnswer}
 use Rattle.rules.specs.SetupLaws.{setup-count}
-use Rattle.rules.specs.State.{noSender, newSender, senderAt, emptyReceiver}
-use Rattle.rules.specs.WithinLaws.{message-later, Stays, senders-stay, set-place, written-place, valid-settings, valid-senders, valid-length}
+use Rattle.state.specs.State.{noSender, newSender, senderAt, emptyReceiver}
+use Rattle.state.specs.WithinLaws.{message-later, Stays, senders-stay, set-place, written-place, valid-settings, valid-senders, valid-length}
 
 -- ---- setup
 

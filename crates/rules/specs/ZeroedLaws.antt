@@ -11,9 +11,9 @@ use borrow.Author.Tests.{eqb-true}
 use Rattle.octets.specs.Split.{lt-or-le, eq-or-ne, cond-case}
 use Rattle.header.specs.Alive.{bodyOf}
 use Rattle.header.specs.Head.{headOf}
-use Rattle.rules.specs.declared.Address.{Address}
-use Rattle.rules.specs.declared.Sender.{Sender}
-use Rattle.rules.specs.declared.Receiver.{Receiver}
+use Rattle.state.specs.declared.Address.{Address}
+use Rattle.state.specs.declared.Sender.{Sender}
+use Rattle.state.specs.declared.Receiver.{Receiver}
 use Rattle.rules.specs.declared.answers.Answer.{Answer}
 use Rattle.rules.specs.declared.answers.Noted.{Noted}
 use Rattle.rules.specs.declared.answers.Setup.{Setup}
@@ -26,10 +26,12 @@ use Rattle.rules.specs.Clock.{clockRows, aged, agedSenders, ticked, notT
 use Rattle.rules.specs.AliveLaws.{alive-facts}
 use Rattle.rules.specs.ClockLaws.{aged-later}
 use Rattle.rules.specs.First.{first}
-use Rattle.rules.specs.Message.{found, messageNumber, withSender, taken, refused, messageAnswer}
+use Rattle.state.specs.Table.{found}
+use Rattle.rules.specs.Message.{messageNumber, withSender, taken, refused, messageAnswer}
 use Rattle.rules.specs.MessageLaws.{taken-facts}
-use Rattle.rules.specs.Setup.{given, newSenders, setupWithin, setupState, setupAnswer}
-use Rattle.rules.specs.State.{noAddress, noSender, newSender, senderAt}
+use Rattle.state.specs.Limits.{given}
+use Rattle.rules.specs.Setup.{newSenders, setupWithin, setupState, setupAnswer}
+use Rattle.state.specs.State.{noAddress, noSender, newSender, senderAt}
 use Rattle.rules.specs.SeenLaws.{ChangesSeen, changes-zero, changes-aged, changes-heard, changes-after}
 
 -- In every place of a table what is not looked at is 0.

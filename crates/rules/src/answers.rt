@@ -1,12 +1,12 @@
 // What the calls take and answer. 01's number for each case of an enum is `outcomeNumber` of specs/Admit.antt, `callNumber` of
 // specs/Setup.antt and `missingNumber` of specs/Question.antt.
 
-use crate::Address;
-use crate::Receiver;
-use crate::Sender;
 use ring::Number;
 use ring::Verdict;
 use ring::Version;
+use state::Address;
+use state::Receiver;
+use state::Sender;
 
 // What became of a packet or a call.
 pub enum Outcome {

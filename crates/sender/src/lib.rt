@@ -8,25 +8,24 @@ ghost use mathlib.Core.List.{[], _∷_};
 ghost use Rattle.cut.specs.Possible.{possible as isPossible};
 ghost use Rattle.rules.specs.Admit.{rejoins as isRejoining, sameCut, senderRows, mapAfter, droppedBy, lastBy, closed, messageOf, opened as isOpened, admitted, admission, verdictOf};
 ghost use Rattle.rules.specs.First.{row, first};
-ghost use Rattle.rules.specs.Map.{holds as holdsOf};
+ghost use Rattle.state.specs.Map.{holds as holdsOf};
 use cut::possible::message_length;
 use cut::possible::possible;
 use cut::possible::unit;
-use header::Cut;
 use header::Head;
 use ring::Verdict;
 use ring::newer;
 use ring::number_check;
-use rules::Last;
-use rules::Message;
-use rules::Sender;
 use rules::answers::Admission;
 use rules::answers::Dropped;
 use rules::answers::Outcome;
-use rules::map::held;
-use rules::map::holds;
-use rules::map::is_full;
-use rules::map::marked;
+use state::Last;
+use state::Message;
+use state::Sender;
+use state::map::held;
+use state::map::holds;
+use state::map::is_full;
+use state::map::marked;
 
 // What the record makes of the PDU with this header, at a node with these settings and this clock.
 pub fn admit(s: Sender, test: bool, n1: u16, clock: u64, h: Head) -> Admission

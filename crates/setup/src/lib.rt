@@ -2,17 +2,17 @@
 ghost use mathlib.Core.Path.{_≡_};
 ghost use Prim.Native.Nat.{_≤_};
 ghost use Rattle.rules.specs.Setup.{setupWithin, newSenders, setupState, setupAnswer};
-ghost use Rattle.rules.specs.State.{newSender};
-use rules::Address;
-use rules::Heard;
-use rules::Last;
-use rules::Message;
-use rules::Receiver;
-use rules::Sender;
-use rules::addresses_within;
+ghost use Rattle.state.specs.State.{newSender};
 use rules::answers::Call;
 use rules::answers::Setup;
 use rules::answers::Started;
+use state::Address;
+use state::Heard;
+use state::Last;
+use state::Message;
+use state::Receiver;
+use state::Sender;
+use state::addresses_within;
 
 pub fn setup(q: Setup) -> Started
     ensures { λ r. ⌜ r ≡ setupAnswer q ⌝ }

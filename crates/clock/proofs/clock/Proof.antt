@@ -6,9 +6,9 @@ use borrow.Author.Needs.{needs}
 use borrow.Author.Tests.{not-true, not-false}
 use Rattle.rules.specs.Clock.{drops, dies, agedSenders, mapWhere, notTicked}
 use Rattle.rules.specs.ClockLaws.{withSenders, map-again, map-below, state-more, ticked-is, clock-nine, clock-back, clock-on}
-use Rattle.rules.specs.LimitsLaws.{valid-count}
-use Rattle.rules.specs.MessageLaws.{look-valid}
-use Rattle.rules.specs.declared.Receiver.{Receiver}
+use Rattle.state.specs.LimitsLaws.{valid-count}
+use Rattle.state.specs.TableLaws.{look-valid}
+use Rattle.state.specs.declared.Receiver.{Receiver}
 use borrow.Author.Needs.{needs}
 use Rattle.clock.proofs.clock.Statement.{statement}
 use Rattle.clock.proofs.clock.Tie as tie

@@ -6,12 +6,12 @@ use native.Mathlib.Omega.{arith}
 use borrow.Author.Count.{below-more}
 use borrow.Author.Tests.{not-true, not-false}
 use Rattle.rules.specs.declared.answers.Missing.the-variants.{NoneOpen}
-use Rattle.rules.specs.LimitsLaws.{valid-count}
-use Rattle.rules.specs.WithinLaws.{valid-sender}
-use Rattle.rules.specs.Map.{holds}
-use Rattle.rules.specs.MessageLaws.{look-valid}
+use Rattle.state.specs.LimitsLaws.{valid-count}
+use Rattle.state.specs.WithinLaws.{valid-sender}
+use Rattle.state.specs.Map.{holds}
+use Rattle.state.specs.TableLaws.{look-valid}
 use Rattle.rules.specs.QuestionLaws.{all-held, question-none, question-piece, question-nine}
-use Rattle.rules.specs.State.{senderAt}
+use Rattle.state.specs.State.{senderAt}
 use borrow.Author.Needs.{needs}
 use Rattle.rules.specs.QuestionLaws.{piecesOf, Held, all-held, question-none, question-piece, question-nine}
 use Rattle.question.proofs.question.Statement.{statement}

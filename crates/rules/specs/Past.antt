@@ -1,0 +1,45 @@
+-- "A past is a setup, storage of its right length with any octets in it, and then calls, each given the state and storage that the one
+-- before left."
+use Prim.Native.Nat.{ℕ, _*_}
+use mathlib.Core.Path.{_≡_}
+use mathlib.Core.List.{List, [], _∷_}
+use lib.ListN.{length}
+use Rattle.state.specs.declared.Receiver.{Receiver}
+use Rattle.rules.specs.declared.answers.Setup.{Setup}
+use Rattle.rules.specs.Alive.{aliveAnswer}
+use Rattle.rules.specs.Clock.{clockAnswer}
+use Rattle.rules.specs.Message.{area, messageAnswer, messageStorage}
+use Rattle.rules.specs.Setup.{setupAnswer}
+
+-- A receiver, and the storage that is lent to it.
+pub record World : Type 0 where
+  pub state : Receiver
+  pub storage : List ℕ
+
+-- A call, with any octets or any time.
+pub data Event : Type 0 where
+  message : List ℕ → Event
+  alive : List ℕ → Event
+  clock : ℕ → Event
+  question : Event
+
+-- "the state and storage that the one before left"
+unfoldable pub step : World → Event → World
+step w (message packet) = record {
+  state = messageAnswer (w .state) (length (w .storage)) packet .state;
+  storage = messageStorage (w .state) (w .storage) packet;
+}
+step w (alive packet) = record { state = aliveAnswer (w .state) packet .state; storage = w .storage }
+step w (clock now) = record { state = clockAnswer (w .state) now .state; storage = w .storage }
+step w question = w
+
+-- What calls leave, in the order of time.
+unfoldable pub after : World → List Event → World
+after w [] = w
+after w (e ∷ es) = after (step w e) es
+
+-- "a setup, storage of its right length with any octets in it"; the setup may have been refused.
+pub record Start (w : World) : Type 0 where
+  pub given : Setup
+  pub state : w .state ≡ setupAnswer given .state
+  pub room : length (w .storage) ≡ w .state .count * area

@@ -1,0 +1,78 @@
+-- Of every past: the state stays valid, and the storage and the table of senders are of the size that they had. So no past meets 9 or 11.
+use Prim.Native.Nat.{ℕ, _*_}
+use mathlib.Core.Path.{_≡_, refl, sym, ap, _∙_}
+use mathlib.Core.Bool.{true}
+use mathlib.Core.List.{List, [], _∷_}
+use lib.Dec.{eqb}
+use lib.ListN.{length}
+use Rattle.octets.specs.RunLaws.{length-laid}
+use Rattle.octets.specs.Split.{cond-case}
+use Rattle.header.specs.Head.{headOf}
+use Rattle.state.specs.declared.Receiver.{Receiver}
+use Rattle.state.specs.Limits.{valid}
+use Rattle.rules.specs.declared.answers.Ticked.{Ticked}
+use Rattle.rules.specs.Changes.{message-only, alive-only}
+use Rattle.rules.specs.Clock.{clockRows, clockAnswer, ticked, notTicked}
+use Rattle.rules.specs.First.{first}
+use Rattle.rules.specs.Message.{area, messageNumber, messageStorage, storageAfter}
+use Rattle.rules.specs.Past.{World, Event, message, alive, clock, question, step, after, Start}
+use Rattle.rules.specs.ValidLaws.{setup-valid, message-valid, alive-valid, clock-valid}
+
+-- What every past keeps.
+pub record Sound (w : World) : Type 0 where
+  pub is-valid : valid (w .state) ≡ true
+  pub room : length (w .storage) ≡ w .state .count * area
+
+pub start-sound : (w : World) → Start w → Sound w
+start-sound w s = record { is-valid = rw (s .state) (setup-valid (s .given)); room = s .room }
+
+-- ---- what a call keeps
+
+length-after : (storage : List ℕ) (i : ℕ) (packet : List ℕ) → length (storageAfter storage i (headOf packet) packet) ≡ length storage
+unfolding storageAfter
+length-after storage i packet = cond-case (λ (x : List ℕ). length x ≡ length storage) (eqb (headOf packet .cut .tbn) 1) _ _ (λ _. refl) (λ _. length-laid storage _ _)
+
+pub same-room : (w : Receiver) (storage packet : List ℕ) → length (messageStorage w storage packet) ≡ length storage
+unfolding messageStorage
+same-room w storage packet = cond-case (λ (x : List ℕ). length x ≡ length storage) (eqb (messageNumber w (length storage) packet) 0) _ _ (λ _. length-after storage _ packet) (λ _. refl)
+
+clock-count : (w : Receiver) (now : ℕ) → clockAnswer w now .state .count ≡ w .count
+unfolding clockAnswer ticked notTicked
+clock-count w now =
+    cond-case (λ (a : Ticked). a .state .count ≡ w .count) (eqb (first (clockRows w now)) 0) (ticked w now) (notTicked w (first (clockRows w now))) (λ _. refl) (λ _. refl)
+
+pub same-count : (w : World) (e : Event) → step w e .state .count ≡ w .state .count
+unfolding step
+same-count w (message packet) = message-only (w .state) (length (w .storage)) packet .same-count
+same-count w (alive packet) = alive-only (w .state) packet .same-count
+same-count w (clock now) = clock-count (w .state) now
+same-count w question = refl
+
+step-valid : (w : World) (e : Event) → valid (w .state) ≡ true → valid (step w e .state) ≡ true
+unfolding step
+step-valid w (message packet) v = message-valid (w .state) (length (w .storage)) packet v
+step-valid w (alive packet) v = alive-valid (w .state) packet v
+step-valid w (clock now) v = clock-valid (w .state) now v
+step-valid w question v = v
+
+step-room : (w : World) (e : Event) → length (step w e .storage) ≡ length (w .storage)
+unfolding step
+step-room w (message packet) = same-room (w .state) (w .storage) packet
+step-room w (alive packet) = refl
+step-room w (clock now) = refl
+step-room w question = refl
+
+pub step-sound : (w : World) (e : Event) → Sound w → Sound (step w e)
+step-sound w e s = record {
+  is-valid = step-valid w e (s .is-valid);
+  room = step-room w e ∙ s .room ∙ ap (λ (k : ℕ). k * area) (sym (same-count w e));
+}
+
+pub after-sound : (w : World) (es : List Event) → Sound w → Sound (after w es)
+unfolding after
+after-sound w [] s = s
+after-sound w (e ∷ es) s = after-sound (step w e) es (step-sound w e s)
+
+-- "No past ever meets 9", and none meets 11.
+pub past-sound : (w : World) → Start w → (es : List Event) → Sound (after w es)
+past-sound w s es = after-sound w es (start-sound w s)

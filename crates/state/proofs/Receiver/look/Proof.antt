@@ -1,0 +1,117 @@
+-- After i turns the first i senders have been judged, found and seen. Assumes nothing.
+use Prim.Native.Nat.{ℕ, _≤_, _<_, _-_}
+use mathlib.Core.Path.{_≡_, refl, sym, _∙_}
+use mathlib.Core.Bool.{_&&_, and-true}
+use native.Mathlib.Omega.{arith}
+use borrow.Author.Needs.{needs}
+use borrow.Author.Tests.{lt-leb}
+use lib.ListN.{length, length-set}
+use Rattle.state.specs.Limits.{sendersWithin, addressAt, given}
+use Rattle.state.specs.LimitsLaws.{new-ext, seen-more, senders-more, valid-few}
+use Rattle.state.specs.Table.{find, lookAt}
+use Rattle.state.specs.TableLaws.{find-more, look-few}
+use Rattle.state.specs.State.{firstWhere}
+use Rattle.state.proofs.Receiver.look.Statement.{statement}
+use Rattle.state.proofs.Receiver.look.Tie as tie
+
+abbrev Inv-loop : tie.InvT-loop
+Inv-loop a self count clock valid₀ at₀ seen₀ i₀ valid at seen i =
+    (i ≤ count) × (count ≤ 16) × (length seen ≡ 16) × ((j : ℕ) → j < i → given seen j ≡ addressAt (self .senders) j)
+    × (valid ≡ valid₀ && sendersWithin clock (self .senders) i) × (at ≡ find (self .senders) a i)
+
+abbrev μ-loop : tie.MeasureT-loop
+μ-loop a self count clock valid₀ at₀ seen₀ i₀ valid at seen i = count - i
+
+returns : tie.Need-returns Inv-loop μ-loop
+unfolding lookAt
+returns c = let w = c .before .args .t1 in rw (valid-few w (c .if1 .taken), lt-leb (w .count) 16 (c .if1 .taken))
+
+settings-within-requires : tie.Need-settings-within-requires Inv-loop μ-loop
+settings-within-requires c κs = search needs
+
+loop-holds : tie.Need-loop-holds Inv-loop μ-loop
+unfolding sendersWithin firstWhere
+loop-holds c =
+    (search needs, search needs, search needs, (λ j q. absurd (omega arith)), sym (and-true _), refl)
+
+cast-s : tie.Need-cast-s Inv-loop μ-loop
+cast-s c = omega arith
+
+mul-s : tie.Need-mul-s Inv-loop μ-loop
+mul-s c = omega arith
+
+element-copy-out-s : tie.Need-element-copy-out-s Inv-loop μ-loop
+element-copy-out-s c = omega arith
+
+within-requires : tie.Need-within-requires Inv-loop μ-loop
+within-requires c κs = search needs
+
+fresh-requires : tie.Need-fresh-requires Inv-loop μ-loop
+fresh-requires c κs = search needs
+
+cast-seen : tie.Need-cast-seen Inv-loop μ-loop
+cast-seen c = omega arith
+
+mul-seen : tie.Need-mul-seen Inv-loop μ-loop
+mul-seen c = omega arith
+
+array-set-from-seen : tie.Need-array-set-from-seen Inv-loop μ-loop
+array-set-from-seen c = omega arith
+
+same-requires : tie.Need-same-requires Inv-loop μ-loop
+same-requires c κs = search needs
+
+next-place-requires : tie.Need-next-place-requires Inv-loop μ-loop
+next-place-requires c κs = omega arith
+
+add-i : tie.Need-add-i Inv-loop μ-loop
+add-i c = omega arith
+
+loop-less : tie.Need-loop-less Inv-loop μ-loop
+loop-less c = omega arith
+
+loop-again : tie.Need-loop-again Inv-loop μ-loop
+loop-again c =
+    let new = c .before .before in
+    let here = new .before .before .before in
+    let l = here .before .before .loop in
+    let first = here .before .before .before in
+    let w = first .before .before .args .t1 in (
+      omega arith,
+      omega arith,
+      simp length-set (l .inv .2),
+      seen-more (l .seen) (w .senders) (l .i) (omega arith) (l .inv .3),
+      senders-more (w .clock) (w .senders) (l .i) _ (first .settings-within .result) _ _ (l .inv .4) (new .before .within .ensures) (new .fresh .ensures ∙ new-ext _ _ _ _ (l .inv .3)),
+      c .next-place .ensures ∙ find-more (w .senders) _ (l .i) _ _ (l .inv .5) (c .before .same .ensures),
+    )
+
+returns-2 : tie.Need-returns-2 Inv-loop μ-loop
+returns-2 c =
+    let l = c .before .loop in
+    let judged = c .before .before in
+    let a = judged .before .before .args in
+    look-few (a .t1) (a .a) _ _ (l .i) _ (omega arith) (omega arith) (judged .settings-within .ensures) (l .inv .4) (l .inv .5)
+
+pub look-spec : {M : Type 1} → statement M
+look-spec =
+    tie.close
+    (tie.spec
+    Inv-loop
+    μ-loop
+    returns
+    settings-within-requires
+    loop-holds
+    cast-s
+    mul-s
+    element-copy-out-s
+    within-requires
+    fresh-requires
+    cast-seen
+    mul-seen
+    array-set-from-seen
+    same-requires
+    next-place-requires
+    add-i
+    loop-less
+    loop-again
+    returns-2)

@@ -1,0 +1,21 @@
+-- No word is the full map of more than 64 pieces. Assumes nothing.
+use mathlib.Core.Path.{_≡_, sym}
+use native.Mathlib.Omega.{arith}
+use borrow.Author.Tests.{ne-eqb}
+use Rattle.state.specs.Map.{fullMap}
+use Rattle.state.specs.MapLaws.{full-above}
+use borrow.Author.Needs.{needs}
+use Rattle.state.proofs.map.is_full.Statement.{statement}
+use Rattle.state.proofs.map.is_full.Tie as tie
+
+returns : tie.Need-returns
+returns c = let a = c .before .args in sym (ne-eqb (a .map) (fullMap (a .t)) (λ (e : a .map ≡ fullMap (a .t)). omega (arith, full-above (a .map) (a .t) (omega arith) (c .if1 .taken))))
+
+full-requires : tie.Need-full-requires
+full-requires c κs = search needs
+
+returns-2 : tie.Need-returns-2
+returns-2 c = rw (c .full .ensures)
+
+pub is-full-spec : {M : Type 1} → statement M
+is-full-spec = tie.close (tie.spec returns full-requires returns-2)

@@ -1,0 +1,21 @@
+-- Every word is below the full map of more than 64 pieces. Assumes nothing.
+use mathlib.Core.Path.{sym}
+use native.Mathlib.Omega.{arith}
+use mathlib.Core.Bool.{and-true}
+use borrow.Author.Tests.{lt-ltb}
+use Rattle.state.specs.MapLaws.{full-above}
+use borrow.Author.Needs.{needs}
+use Rattle.state.proofs.map.is_partial.Statement.{statement}
+use Rattle.state.proofs.map.is_partial.Tie as tie
+
+returns : tie.Need-returns
+returns c = let a = c .before .args in rw (lt-ltb _ _ (full-above (a .map) (a .t) (omega arith) (c .if1 .taken))) (sym (and-true _))
+
+full-requires : tie.Need-full-requires
+full-requires c κs = search needs
+
+returns-2 : tie.Need-returns-2
+returns-2 c = rw (c .full .ensures)
+
+pub is-partial-spec : {M : Type 1} → statement M
+is-partial-spec = tie.close (tie.spec returns full-requires returns-2)

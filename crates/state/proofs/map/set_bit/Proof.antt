@@ -1,0 +1,14 @@
+-- Setting a clear bit adds its power. Assumes nothing.
+use Rattle.state.specs.MapLaws.{code-mark}
+use borrow.Author.Needs.{needs}
+use Rattle.state.proofs.map.set_bit.Statement.{statement}
+use Rattle.state.proofs.map.set_bit.Tie as tie
+
+shl-result : tie.Need-shl-result
+shl-result c = search needs
+
+returns : tie.Need-returns
+returns c = code-mark (c .args .k) (c .args .map) (c .pre .0) (c .pre .1)
+
+pub set-bit-spec : {M : Type 1} → statement M
+set-bit-spec = tie.close (tie.spec shl-result returns)

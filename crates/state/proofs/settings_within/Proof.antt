@@ -1,0 +1,12 @@
+-- The test is that of the definition. Assumes nothing.
+use mathlib.Core.Path.{refl}
+use Rattle.state.specs.Limits.{settingsOf}
+use Rattle.state.proofs.settings_within.Statement.{statement}
+use Rattle.state.proofs.settings_within.Tie as tie
+
+returns : tie.Need-returns
+unfolding settingsOf
+returns c = refl
+
+pub settings-within-spec : {M : Type 1} → statement M
+settings-within-spec = tie.close (tie.spec returns)

@@ -1,0 +1,173 @@
+-- Laws of the map, and what the code's shifts say of its bits. Assumes nothing.
+use mathlib.Core.Path.{_≡_, refl, sym, ap, _∙_}
+use mathlib.Core.Logic.{_≢_, ⊎-elim}
+use mathlib.Core.Bool.{false}
+use Prim.Native.Nat.{ℕ, zero, suc, _+_, _-_, _*_, _/_, _%_, _^_, _≤_, _<_}
+use native.Mathlib.Nat.{div-one, min-zero, mod-eq-of-lt, one-mul}
+use native.Mathlib.Numerals.{one-add}
+use native.Mathlib.Omega.{arith}
+use lib.Bits.{bitAnd, bitOr, and-step, and-zero-r, and-mask, or-disjoint}
+use lib.Count.{ones, ones-step, trailingZeros}
+use lib.Pow.{pow-pos, pow-mono, pow-lt, shr-shr, high, ones-split, ones-lt}
+use borrow.Author.Tests.{eqb-false, ne-eqb, le-leb}
+use Rattle.octets.specs.Split.{eq-or-ne}
+use Rattle.state.specs.Map.{bit, holds, pieceBit, fullMap, marked, lowest}
+
+-- ---- bits
+
+pub bit-shift : (k m : ℕ) → bit k m ≡ m / 2 ^ k % 2
+unfolding bit
+bit-shift zero m = rw div-one
+bit-shift (suc k) m = bit-shift k (m / 2) ∙ ap (λ (x : ℕ). x % 2) (shr-shr m 1 k ∙ rw one-add)
+
+pub bit-most : (k m : ℕ) → bit k m ≤ 1
+unfolding bit
+bit-most zero m = omega arith
+bit-most (suc k) m = bit-most k (m / 2)
+
+half-add : (m k : ℕ) → (m + 2 ^ suc k) / 2 ≡ m / 2 + 2 ^ k
+half-add m k = omega arith
+
+-- A clear bit is set by adding its power,
+pub bit-set : (k m : ℕ) → bit k m ≡ 0 → bit k (m + 2 ^ k) ≡ 1
+unfolding bit
+bit-set zero m e = omega arith
+bit-set (suc k) m e = rw (half-add m k) (bit-set k (m / 2) e)
+
+-- and no other changes.
+pub bit-keep : (j k m : ℕ) → bit k m ≡ 0 → j ≢ k → bit j (m + 2 ^ k) ≡ bit j m
+unfolding bit
+bit-keep zero zero m e ne = absurd (ne refl)
+bit-keep zero (suc k) m e ne = omega arith
+bit-keep (suc j) zero m e ne =
+    let h : (m + 1) / 2 ≡ m / 2 = omega arith in
+    rw h
+bit-keep (suc j) (suc k) m e ne = rw (half-add m k) (bit-keep j k (m / 2) e (λ q. ne (ap suc q)))
+
+pub set-below : (n k m : ℕ) → k < n → m < 2 ^ n → bit k m ≡ 0 → m + 2 ^ k < 2 ^ n
+unfolding bit
+set-below zero k m h l e = omega arith
+set-below (suc n) zero m h l e = omega arith
+set-below (suc n) (suc k) m h l e =
+    let ih = set-below n k (m / 2) (omega arith) (omega arith) e in
+    omega arith
+
+pub bit-zero : (k : ℕ) → bit k 0 ≡ 0
+unfolding bit
+bit-zero zero = refl
+bit-zero (suc k) = bit-zero k
+
+pub bit-above : (n k m : ℕ) → m < 2 ^ n → n ≤ k → bit k m ≡ 0
+unfolding bit
+bit-above zero k m l h =
+    let z : m ≡ 0 = omega arith in
+    rw z (bit-zero k)
+bit-above (suc n) zero m l h = omega arith
+bit-above (suc n) (suc k) m l h = bit-above n k (m / 2) (omega arith) (omega arith)
+
+half-ones : (n : ℕ) → (2 ^ suc n - 1) / 2 ≡ 2 ^ n - 1
+half-ones n = omega (arith, pow-pos n)
+
+-- The full map has every bit,
+pub full-bit : (n k : ℕ) → k < n → bit k (2 ^ n - 1) ≡ 1
+unfolding bit
+full-bit zero k h = omega arith
+full-bit (suc n) zero h = omega (arith, pow-pos n)
+full-bit (suc n) (suc k) h = rw (half-ones n) (full-bit n k (omega arith))
+
+-- and is the only one that has.
+pub full-only : (n m : ℕ) → m < 2 ^ n → ((k : ℕ) → k < n → bit k m ≡ 1) → m ≡ 2 ^ n - 1
+unfolding bit
+full-only zero m l h = omega arith
+full-only (suc n) m l h =
+    let ih = full-only n (m / 2) (omega arith) (λ k q. h (suc k) (omega arith)) in
+    omega (arith, pow-pos n, h 0 (omega arith))
+
+-- A piece more is a one more.
+pub ones-set : (k m : ℕ) → bit k m ≡ 0 → ones (m + 2 ^ k) ≡ suc (ones m)
+unfolding bit
+ones-set zero m e =
+    let h : (m + 1) / 2 ≡ m / 2 = omega arith in
+    omega (arith, ones-step (m + 1), ones-step m, ap ones h)
+ones-set (suc k) m e =
+    omega (arith, ones-step (m + 2 ^ suc k), ones-step m, ap ones (half-add m k), ones-set k (m / 2) e)
+
+-- A map that is not empty holds a piece.
+pub ones-some : (n m : ℕ) → m < 2 ^ n → 0 < m → 1 ≤ ones m
+ones-some zero m h some = absurd (omega arith)
+ones-some (suc n) m h some = ⊎-elim
+    (λ (e : m % 2 ≡ 0). omega (arith, ones-step m, ones-some n (m / 2) (omega arith) (omega arith)))
+    (λ (e : m % 2 ≢ 0). omega (arith, ones-step m))
+    (eq-or-ne (m % 2) 0)
+
+-- ---- the code's words
+
+pub code-bit : (k m : ℕ) → bitAnd (m / 2 ^ k) 1 ≡ bit k m
+code-bit k m = and-mask (m / 2 ^ k) 1 ∙ sym (bit-shift k m)
+
+and-clear : (k m : ℕ) → bit k m ≡ 0 → bitAnd m (2 ^ k) ≡ 0
+unfolding bit
+and-clear zero m e =
+    let z : bitAnd (m / 2) 0 ≡ 0 = and-zero-r (m / 2) in
+    and-step m 1 ∙ rw (z, e)
+and-clear (suc k) m e =
+    let h : 2 ^ suc k / 2 ≡ 2 ^ k = omega arith in
+    let o : 2 ^ suc k % 2 ≡ 0 = omega arith in
+    let z : bitAnd (m / 2) (2 ^ k) ≡ 0 = and-clear k (m / 2) e in
+    and-step m (2 ^ suc k) ∙ rw (h, o, z, min-zero (m % 2))
+
+pub code-mark : (k m : ℕ) → k < 64 → bit k m ≡ 0 → bitOr m ((1 * 2 ^ k) % 2 ^ 64) ≡ m + 2 ^ k
+code-mark k m h e =
+    let l : 1 * 2 ^ k < 2 ^ 64 = rw one-mul (pow-lt h) in
+    rw (mod-eq-of-lt l, one-mul) (or-disjoint m (2 ^ k) (and-clear k m e))
+
+pub code-full : (t : ℕ) → t ≤ 64 → (2 ^ 64 - 1) / 2 ^ (64 - t) ≡ fullMap t
+code-full t h =
+    let z : 64 ≡ t + (64 - t) = omega arith in
+    ap (λ (x : ℕ). (2 ^ x - 1) / 2 ^ (64 - t)) z ∙ rw (ones-split t (64 - t)) (high (2 ^ t - 1) (64 - t) (ones-lt (64 - t)))
+
+-- Trailing ones are the trailing zeros of the complement.
+pub code-lowest : (n m : ℕ) → m < 2 ^ n → trailingZeros n (2 ^ n - 1 - m) ≡ lowest n m
+unfolding trailingZeros lowest
+code-lowest zero m h = refl
+code-lowest (suc n) m h = ⊎-elim
+    (λ (e : m % 2 ≡ 0).
+    let o : (2 ^ suc n - 1 - m) % 2 ≡ 1 = omega (arith, pow-pos n) in
+    rw (o, e))
+    (λ (e : m % 2 ≢ 0).
+    let o : (2 ^ suc n - 1 - m) % 2 ≡ 0 = omega (arith, pow-pos n) in
+    let d : m % 2 ≡ 1 = omega arith in
+    let z : (2 ^ suc n - 1 - m) / 2 ≡ 2 ^ n - 1 - m / 2 = omega (arith, pow-pos n) in
+    rw (o, d, z) (ap suc (code-lowest n (m / 2) (omega arith))))
+    (eq-or-ne (m % 2) 0)
+
+-- The lowest clear bit is the first that is found in their order.
+pub lowest-first : (n k m : ℕ) → k < n → ((j : ℕ) → j < k → bit j m ≡ 1) → bit k m ≡ 0 → lowest n m ≡ k
+unfolding bit lowest
+lowest-first zero k m q h e = absurd (omega arith)
+lowest-first (suc n) zero m q h e = rw e
+lowest-first (suc n) (suc k) m q h e =
+    let low : m % 2 ≡ 1 = h 0 (omega arith) in
+    rw low (ap suc (lowest-first n k (m / 2) (omega arith) (λ j r. h (suc j) (omega arith)) e))
+
+-- ---- pieces
+
+pub holds-above : (m c : ℕ) → m < 2 ^ 64 → 64 < c → holds m c ≡ false
+holds-above m c l h =
+    let z : bit (c - 1) m ≡ 0 = bit-above 64 (c - 1) m l (omega arith) in
+    ne-eqb (bit (c - 1) m) 1 (λ e. omega arith)
+
+pub holds-not : (m c : ℕ) → holds m c ≡ false → bit (c - 1) m ≡ 0
+holds-not m c e = omega (arith, bit-most (c - 1) m, eqb-false (bit (c - 1) m) 1 e)
+
+pub full-above : (m t : ℕ) → m < 2 ^ 64 → 64 < t → m < fullMap t
+full-above m t l h = omega (arith, pow-mono {i = 65} {j = t} h)
+
+pub holds-zero : (c : ℕ) → holds 0 c ≡ false
+holds-zero c =
+    let z : bit (c - 1) 0 ≡ 0 = bit-zero (c - 1) in
+    ne-eqb (bit (c - 1) 0) 1 (λ e. omega arith)
+
+pub marked-adds : (m c : ℕ) → c ≤ 64 → holds m c ≡ false → marked m c ≡ m + pieceBit c
+unfolding marked
+marked-adds m c h e = rw (le-leb c 64 h, e)

@@ -1,0 +1,288 @@
+// The receiver's state: its types, its constructor and its limits (number 9), and the table of senders. What every call does to it
+// is said in `rules`, as definitions; the functions that do it stand in the crates above.
+//
+// What is not open, not alive or past the senders is written 0 and never looked at.
+ghost use mathlib.Core.Path.{_≡_};
+ghost use mathlib.Core.Bool.{cond};
+ghost use Prim.Native.Nat.{_+_, _≤_, _<_};
+ghost use lib.Dec.{ltb};
+ghost use Rattle.state.specs.Limits.{isAddress, sameAddress, lastWithin, messageWithin, senderWithin, settingsOf, newAmong, given, addressesWithin};
+ghost use Rattle.state.specs.Table.{source as sourceOf, lookAt};
+ghost use Rattle.state.specs.State.{emptyReceiver};
+
+pub mod map;
+
+use crate::map::is_partial;
+use cut::possible::several;
+use header::DataField;
+use header::Head;
+use header::Node;
+use header::codes::code_of;
+use ring::M;
+use ring::Number;
+use ring::Version;
+
+// The last delivered version RV and number R.
+pub struct Last {
+    pub version: Version,
+    pub number: Number,
+}
+
+// An open message: piece c is held where bit c - 1 of the map is set, bit 0 lowest; the stamp is the clock at its newest piece.
+pub struct Message {
+    pub version: Version,
+    pub number: Number,
+    pub tcd: u16,
+    pub n: u16,
+    pub tbn: u8,
+    pub u: u16,
+    pub map: u64,
+    pub stamp: u64,
+}
+
+// When an alive sender was heard, and after how many seconds of silence it is dead.
+pub struct Heard {
+    pub stamp: u64,
+    pub timeout: u32,
+}
+
+// Where a sender sends from.
+pub struct Address {
+    pub field: DataField,
+    pub node: Node,
+}
+
+pub struct Sender {
+    pub address: Address,
+    pub last: Last,
+    pub open: bool,
+    pub message: Message,
+    pub alive: bool,
+    pub heard: Heard,
+}
+
+pub struct Receiver {
+    // a test node; otherwise online
+    pub test: bool,
+    pub n1: u16,
+    // the drop time T in ms
+    pub t: u32,
+    pub clock: u64,
+    pub count: u8,
+    pub senders: [Sender; 16],
+}
+
+impl Address {
+    pub const NONE: Address = Address {
+        field: DataField(0),
+        node: Node(0),
+    };
+
+    pub fn within(self) -> bool
+        ensures { λ r. ⌜ r ≡ isAddress self ⌝ }
+    {
+        let field = self.field;
+        let node = self.node;
+        field.within() & node.within()
+    }
+
+    pub fn same(self, other: Address) -> bool
+        ensures { λ r. ⌜ r ≡ sameAddress self other ⌝ }
+    {
+        (self.field.0 == other.field.0) & (self.node.0 == other.node.0)
+    }
+}
+
+// Where a PDU comes from.
+pub fn source(h: Head) -> Address
+    ensures { λ r. ⌜ r ≡ sourceOf h ⌝ }
+{
+    let given = h.given;
+    let field = given.field;
+    let node = given.node;
+    Address { field, node }
+}
+
+impl Last {
+    pub const NONE: Last = Last {
+        version: Version(0),
+        number: Number(0),
+    };
+
+    // R is at most M, and not 0 under a version not 0.
+    pub fn within(self) -> bool
+        ensures { λ r. ⌜ r ≡ lastWithin self ⌝ }
+    {
+        (self.number.0 <= M) & ((self.version.0 == 0) | (0 < self.number.0))
+    }
+}
+
+impl Message {
+    pub const NONE: Message = Message {
+        version: Version(0),
+        number: Number(0),
+        tcd: 0,
+        n: 0,
+        tbn: 0,
+        u: 0,
+        map: 0,
+        stamp: 0,
+    };
+
+    pub fn within(self, clock: u64) -> bool
+        ensures { λ r. ⌜ r ≡ messageWithin clock self ⌝ }
+    {
+        let number = self.number;
+        number.within()
+            & code_of(self.tcd).is_user()
+            & several(self.n as u32, self.tbn, self.u as u32)
+            & is_partial(self.map, self.tbn)
+            & (self.stamp <= clock)
+    }
+}
+
+impl Heard {
+    pub const NONE: Heard = Heard {
+        stamp: 0,
+        timeout: 0,
+    };
+}
+
+impl Sender {
+    pub const NONE: Sender = Sender {
+        address: Address::NONE,
+        last: Last::NONE,
+        open: false,
+        message: Message::NONE,
+        alive: false,
+        heard: Heard::NONE,
+    };
+
+    pub fn within(self, clock: u64) -> bool
+        ensures { λ r. ⌜ r ≡ senderWithin clock self ⌝ }
+    {
+        let address = self.address;
+        let last = self.last;
+        let message = self.message;
+        address.within()
+            & last.within()
+            & (!self.open | message.within(clock))
+            & (!self.alive | (self.heard.stamp <= clock))
+    }
+}
+
+impl Receiver {
+    // How many senders there may be.
+    pub const PLACES: usize = 16;
+
+    // The octets of storage that each has.
+    pub const AREA: usize = 16_384;
+
+    // The last ms that the clock may show.
+    pub const CLOCK_MOST: u64 = 1_099_511_627_776;
+
+    pub const N1_MOST: u16 = 1_024;
+
+    pub const DROP_TIME_MOST: u32 = 600_000;
+
+    // What a refused setup returns: no senders.
+    pub fn empty() -> Self
+        ensures { λ r. ⌜ r ≡ emptyReceiver ⌝ }
+    {
+        Receiver {
+            test: false,
+            n1: 1,
+            t: 1,
+            clock: 0,
+            count: 0,
+            senders: [Sender::NONE; Receiver::PLACES],
+        }
+    }
+    // One pass over the table: whether the state is within its limits (number 9), and at which place the sender with this
+    // address stands; the count where none does, and 0 in a state with more than 16 senders.
+    pub fn look(self, a: Address) -> Look
+        ensures { λ r. ⌜ r ≡ lookAt self a ⌝ }
+    {
+        let count = self.count;
+        if 16 < count {
+            return Look {
+                valid: false,
+                at: 0,
+            };
+        }
+        let clock = self.clock;
+        let mut valid = settings_within(self.test, self.n1, self.t, clock, count);
+        let mut at = 0;
+        let mut seen = [Address::NONE; 16];
+        let mut i: u8 = 0;
+        while i < count {
+            let s = self.senders[i as usize];
+            let b = s.address;
+            valid = valid & (s.within(clock) & fresh(seen, i, b));
+            seen[i as usize] = b;
+            at = next_place(at, i, b.same(a));
+            i += 1;
+        }
+        Look { valid, at }
+    }
+}
+
+// What one pass over the table finds.
+pub struct Look {
+    pub valid: bool,
+    pub at: u8,
+}
+
+// The settings, the clock and the count; of the states without senders only the empty one passes.
+fn settings_within(test: bool, n1: u16, t: u32, clock: u64, count: u8) -> bool
+    ensures { λ r. ⌜ r ≡ settingsOf test n1 t clock count ⌝ }
+{
+    (clock <= Receiver::CLOCK_MOST)
+        & (count <= 16)
+        & ((1 <= n1) & (n1 <= Receiver::N1_MOST))
+        & ((1 <= t) & (t <= Receiver::DROP_TIME_MOST))
+        & ((0 < count) | (!test & (n1 == 1) & (t == 1)))
+}
+
+// Whether the first count addresses are within their limits, and none stands there twice.
+pub fn addresses_within(senders: [Address; 16], count: u8) -> bool
+    ensures { λ r. ⌜ r ≡ addressesWithin senders count ⌝ }
+{
+    if 16 < count {
+        return false;
+    }
+    let mut within = true;
+    let mut i: u8 = 0;
+    while i < count {
+        let a = senders[i as usize];
+        within = within & (a.within() & fresh(senders, i, a));
+        i += 1;
+    }
+    within
+}
+
+// Whether none of the first k addresses is this one.
+fn fresh(seen: [Address; 16], k: u8, a: Address) -> bool
+    requires { ⌜ k ≤ 16 ⌝ }
+    ensures { λ r. ⌜ r ≡ newAmong (given seen) k a ⌝ }
+{
+    let mut new = true;
+    let mut j: u8 = 0;
+    while j < k {
+        let b = seen[j as usize];
+        new = new & !b.same(a);
+        j += 1;
+    }
+    new
+}
+
+// The place of the first that was found among one more.
+fn next_place(at: u8, i: u8, here: bool) -> u8
+    requires { ⌜ i < 16 ⌝ }
+    ensures { λ r. ⌜ r ≡ cond (ltb at i) at (cond here i (i + 1)) ⌝ }
+{
+    if at < i {
+        return at;
+    }
+    if here { i } else { i + 1 }
+}
