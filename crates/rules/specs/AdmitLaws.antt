@@ -73,7 +73,7 @@ unfolding admission
 admission-no test n1 clock s h k e ne = rw (e, ne-eqb (first (senderRows test n1 s h)) 0 (λ z. ne (e ∙ z)))
 
 -- The number that the outcome holds is that of the first row that applies.
-admitted-zero : (n1 clock : ℕ) (s : Sender) (h : Head) → refusedNumber (admitted n1 clock s h .outcome) ≡ 0
+pub admitted-zero : (n1 clock : ℕ) (s : Sender) (h : Head) → refusedNumber (admitted n1 clock s h .outcome) ≡ 0
 unfolding admitted
 admitted-zero n1 clock s h = cond-case (λ (o : Outcome). refusedNumber o ≡ 0) (fills s h) _ _ (λ e. refl) (λ e. refl)
 

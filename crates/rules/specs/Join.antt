@@ -2,9 +2,7 @@
 use Prim.Native.Nat.{ℕ, _≤_}
 use mathlib.Core.Path.{_≡_}
 use mathlib.Core.Logic.{_≢_}
-use mathlib.Core.Bool.{cond}
 use mathlib.Core.List.{List, [], _∷_, List·Memᴰ}
-use lib.Dec.{eqb}
 use lib.ListN.{length}
 use Rattle.octets.specs.Run.{run}
 use Rattle.header.specs.Head.{headOf}
@@ -12,8 +10,6 @@ use Rattle.header.specs.Places.{headerSize}
 use Rattle.cut.specs.Pieces.{piece, joined}
 use Rattle.cut.specs.Possible.{messageLength, ownLength, unit}
 use Rattle.state.specs.declared.Message.{Message}
-use Rattle.rules.specs.Admit.{rejoins}
-use Rattle.rules.specs.View.{Settings, View, Seen, own, time, other, numberOf, afterView}
 
 -- What all pieces of a message have alike.
 pub record Kin : Type 0 where
@@ -63,13 +59,3 @@ pub record Joined (packets : List (List ℕ)) (packet octets : List ℕ) : Type 
   pub parts : (c : ℕ) → 1 ≤ c → c ≤ kinOf packet .tbn → Brought packets (kinOf packet) c (piece octets (kinOf packet .u) c)
   pub whole : joined (kinOf packet .tbn) (piece octets (kinOf packet .u)) ≡ octets
   pub one-each : OnePerNumber packets
-
--- The packets accepted since the open message opened, the latest first.
-unfoldable pub sinceView : Settings → View → List Seen → List (List ℕ)
-sinceView g v [] = []
-sinceView g v (own packet ∷ h) =
-    cond (eqb (numberOf g (afterView g v h) packet) 0)
-    (cond (rejoins (afterView g v h .sender) (headOf packet)) (packet ∷ sinceView g v h) (packet ∷ []))
-    (sinceView g v h)
-sinceView g v (time now ∷ h) = sinceView g v h
-sinceView g v (other ∷ h) = sinceView g v h

@@ -29,9 +29,9 @@ use Rattle.state.specs.MapLaws.{bit-set, bit-keep, bit-zero, set-below, full-bi
 use Rattle.rules.specs.Admit.{rejoins, sameCut, mapAfter, fills, messageOf, opened, senderAfter, admitted}
 use Rattle.rules.specs.AdmitLaws.{Admitted, admitted-facts}
 use Rattle.rules.specs.Clock.{drops, aged}
-use Rattle.rules.specs.Join.{Kin, kinOf, kinIn, numberIn, behind, Brought, OnePerNumber, Joined, sinceView}
+use Rattle.rules.specs.Join.{Kin, kinOf, kinIn, numberIn, behind, Brought, OnePerNumber, Joined}
 use Rattle.rules.specs.Message.{area, storageAfter}
-use Rattle.rules.specs.View.{Settings, View, Seen, own, time, other, numberOf, put, nextView, tickView, stepView, afterView}
+use Rattle.rules.specs.View.{Settings, View, numberOf, put, nextView, tickView}
 
 -- Where piece c of a message lies in an area.
 abbrev pub pieceAt : ℕ → ℕ → ℕ → List ℕ → List ℕ
@@ -94,7 +94,7 @@ before-opens p octets is-cut size len = record {
   one-each = tt;
 }
 
-kin-same : (s : Sender) (p : List ℕ) → rejoins s (headOf p) ≡ true → sameCut (s .message) (headOf p) ≡ true → kinIn (s .message) ≡ kinOf p
+pub kin-same : (s : Sender) (p : List ℕ) → rejoins s (headOf p) ≡ true → sameCut (s .message) (headOf p) ≡ true → kinIn (s .message) ≡ kinOf p
 unfolding rejoins sameCut
 kin-same s p e f =
     let h = headOf p in
@@ -287,30 +287,18 @@ module _ (packets : List (List ℕ)) (g : Settings) (v : View) (p : List ℕ) (i
   unfolding put
   put-inv = record { room = unfold octets-after in octets-length; good = unfold octets-after in put-good }
 
--- ---- every course of the sender's own calls
+-- ---- what a call of the sender's own, and the clock, leave
 
--- A packet in order is as long as it says.
-abbrev pub Sized : List Seen → Type 0
-Sized [] = Unit {0}
-Sized (own p ∷ h) = (length p ≡ headOf p .cut .bsize) × Sized h
-Sized (time now ∷ h) = Sized h
-Sized (other ∷ h) = Sized h
-
-next-inv : (packets : List (List ℕ)) (g : Settings) (v : View) (p : List ℕ) → Inv packets v → length p ≡ headOf p .cut .bsize
-    → Inv (cond (eqb (numberOf g v p) 0) (cond (rejoins (v .sender) (headOf p)) (p ∷ packets) (p ∷ [])) packets) (nextView g v p)
+pub next-inv : (packets : List (List ℕ)) (g : Settings) (v : View) (p : List ℕ) → Inv packets v → length p ≡ headOf p .cut .bsize
+    → Inv (cond (eqb (numberOf g v p) 0) (p ∷ packetsBefore (v .sender) (headOf p) packets) packets) (nextView g v p)
 unfolding nextView
 next-inv packets g v p inv size = ⊎-elim
     (λ (e : eqb (numberOf g v p) 0 ≡ true).
-    let a = admitted-facts (g .test) (g .n1) (v .sender) (headOf p) (eqb-true (numberOf g v p) 0 e) in
-    rw e (subst (λ (x : List (List ℕ)). Inv x (put g v p)) (grown (rejoins (v .sender) (headOf p))) (put-inv packets g v p inv a size)))
+    rw e (put-inv packets g v p inv (admitted-facts (g .test) (g .n1) (v .sender) (headOf p) (eqb-true (numberOf g v p) 0 e)) size))
     (λ (e : eqb (numberOf g v p) 0 ≡ false). rw e inv)
     (true-or-false (eqb (numberOf g v p) 0))
-  where
-    grown : (b : Bool) → p ∷ cond b packets [] ≡ cond b (p ∷ packets) (p ∷ [])
-    grown true = refl
-    grown false = refl
 
-tick-inv : (packets : List (List ℕ)) (g : Settings) (v : View) (now : ℕ) → Inv packets v → Inv packets (tickView g v now)
+pub tick-inv : (packets : List (List ℕ)) (g : Settings) (v : View) (now : ℕ) → Inv packets v → Inv packets (tickView g v now)
 unfolding tickView aged
 tick-inv packets g v now inv = cond-case (Inv packets) (ltb now (v .now) || ltb clockMost now) _ _ (λ _. inv) (λ _. record {
   room = inv .room;
@@ -319,14 +307,6 @@ tick-inv packets g v now inv = cond-case (Inv packets) (ltb now (v .now) || ltb 
       let kept : dropped ≡ false = not-true dropped (and-right (v .sender .«open») (not dropped) o) in
       rw kept (inv .good (and-left (v .sender .«open») (not dropped) o));
 })
-
-pub inv-after : (g : Settings) (v : View) → v .sender .«open» ≡ false → length (v .octets) ≡ area → (h : List Seen) → Sized h
-    → Inv (sinceView g v h) (afterView g v h)
-unfolding sinceView afterView stepView
-inv-after g v none len [] sized = record { room = len; good = λ o. absurd (never-both o none) }
-inv-after g v none len (own p ∷ h) sized = next-inv (sinceView g v h) g (afterView g v h) p (inv-after g v none len h (sized .1)) (sized .0)
-inv-after g v none len (time now ∷ h) sized = tick-inv (sinceView g v h) g (afterView g v h) now (inv-after g v none len h sized)
-inv-after g v none len (other ∷ h) sized = inv-after g v none len h sized
 
 -- ---- what is delivered
 

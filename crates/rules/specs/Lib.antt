@@ -27,5 +27,6 @@ pub mod View
 pub mod ViewLaws
 pub mod Join
 pub mod JoinLaws
-pub mod SafeLaws
 pub mod Accepted
+pub mod AcceptedLaws
+pub mod SafeLaws

@@ -73,6 +73,11 @@ unfolding after
 after-sound w [] s = s
 after-sound w (e ∷ es) s = after-sound (step w e) es (step-sound w e s)
 
+pub after-count : (w : World) (es : List Event) → after w es .state .count ≡ w .state .count
+unfolding after
+after-count w [] = refl
+after-count w (e ∷ es) = after-count (step w e) es ∙ same-count w e
+
 -- "No past ever meets 9", and none meets 11.
 pub past-sound : (w : World) → Start w → (es : List Event) → Sound (after w es)
 past-sound w s es = after-sound w es (start-sound w s)

@@ -1,4 +1,4 @@
--- What is delivered in a past is what the sender's view says. Assumes nothing.
+-- What is delivered after a past is a join of packets accepted since their message opened. Assumes nothing.
 use Prim.Native.Nat.{ℕ, suc, _+_, _-_, _*_, _≤_, _<_}
 use mathlib.Core.Path.{_≡_, refl, sym, ap, subst, _∙_}
 use mathlib.Core.Logic.{_≢_, ⊎-elim}
@@ -9,10 +9,10 @@ use native.Mathlib.Omega.{arith}
 use lib.Dec.{eqb, ltb}
 use lib.ListN.{length, drop, getD, length-drop}
 use lib.Seq.{take-all}
-use borrow.Author.Tests.{eqb-true, ne-eqb, le-leb, not-true, not-false}
+use borrow.Author.Tests.{eqb-true, eq-eqb, ne-eqb, le-leb, not-true, not-false}
 use Rattle.octets.specs.Run.{run}
 use Rattle.octets.specs.RunLaws.{length-laid, length-run, run-run}
-use Rattle.octets.specs.Split.{true-or-false, cond-case, both, and-left, eq-or-ne}
+use Rattle.octets.specs.Split.{true-or-false, never-both, cond-case, both, and-left, and-right, eq-or-ne}
 use Rattle.ring.specs.declared.Verdict.{Verdict}
 use Rattle.header.specs.declared.Head.{Head}
 use Rattle.header.specs.Head.{headOf}
@@ -25,23 +25,25 @@ use Rattle.state.specs.declared.Sender.{Sender}
 use Rattle.state.specs.Limits.{sameAddress, addressAt, valid, given}
 use Rattle.state.specs.State.{noSender, newSender, emptyReceiver, senderAt}
 use Rattle.state.specs.Table.{source, found}
-use Rattle.state.specs.WithinLaws.{written-place}
+use Rattle.state.specs.WithinLaws.{written-place, valid-sender, same-is}
 use Rattle.rules.specs.declared.answers.Answer.{Answer}
 use Rattle.rules.specs.declared.answers.Outcome.the-variants.{Refused, Stored, Delivered}
+use Rattle.rules.specs.Accepted.{answerTo, isAccepted, hasOpened, acceptedWith, acceptedBy, acceptedSince, partTo, Safe}
+use Rattle.rules.specs.AcceptedLaws.{accepted-is, opens-is}
 use Rattle.rules.specs.Admit.{rejoins, fills, admitted}
 use Rattle.rules.specs.AdmitLaws.{admitted-facts}
-use Rattle.rules.specs.Join.{Joined, behind, sinceView}
-use Rattle.rules.specs.JoinLaws.{Sized, Inv, inv-after, partView, delivered-joined}
+use Rattle.rules.specs.Join.{Joined, behind}
+use Rattle.rules.specs.JoinLaws.{Inv, next-inv, tick-inv, partView, delivered-joined}
 use Rattle.rules.specs.Message.{area, lengthWrong, headWithin, messageNumber, messageAnswer, messageStorage, storageAfter, liesAt, taken, refused}
 use Rattle.rules.specs.MessageLaws.{Passed, taken-facts, or-false}
 use Rattle.rules.specs.Part.{partOf, storedPart}
-use Rattle.rules.specs.Past.{World, Event, message, alive, clock, question, Start}
-use Rattle.rules.specs.PastLaws.{Sound, start-sound}
+use Rattle.rules.specs.Past.{World, Event, message, alive, clock, question, step, after, Start}
+use Rattle.rules.specs.PastLaws.{Sound, start-sound, past-sound, after-count}
 use Rattle.rules.specs.QuestionLaws.{first-holds}
 use Rattle.rules.specs.Setup.{setupWithin, newSenders, setupState, setupAnswer}
 use Rattle.rules.specs.SetupLaws.{setup-count}
-use Rattle.rules.specs.View.{Seen, seen, Settings, settingsFrom, view, inOrder, isFrom, numberOf, afterView}
-use Rattle.rules.specs.ViewLaws.{own-octets, number-is, fills-joining, left, left-sound, left-settings, left-count, view-left}
+use Rattle.rules.specs.View.{Settings, settingsFrom, view, inOrder, isFrom, seen, numberOf, stepView}
+use Rattle.rules.specs.ViewLaws.{out-of-order, number-at, found-own, own-octets, fills-joining, Registered, registered-step, registered-view, registered-number, registered-after}
 
 module _ (w : World) (sound : Sound w) (p : List ℕ) (vd : Verdict) (gave : messageAnswer (w .state) (length (w .storage)) p .outcome ≡ Delivered vd) where
   abbrev h : Head
@@ -132,25 +134,6 @@ module _ (w : World) (sound : Sound w) (p : List ℕ) (vd : Verdict) (gave : mes
       (λ (e : eqb (h .cut .tbn) 1 ≡ false). rw e part-stored)
       (true-or-false (eqb (h .cut .tbn) 1)))
 
--- ---- every past, the latest call first
-
-sized-seen : (a : Address) (h : List Event) → Sized (map (seen a) h)
-unfolding seen isFrom inOrder
-sized-seen a [] = tt
-sized-seen a (message p ∷ h) =
-    let more = sized-seen a h in
-    cond-case (λ (e : Seen). Sized (e ∷ map (seen a) h)) (isFrom a p) _ _ (λ e. (size-of e, more)) (λ _. more)
-  where
-    size-of : isFrom a p ≡ true → length p ≡ headOf p .cut .bsize
-    size-of e =
-        let ordered = and-left (inOrder p) (sameAddress a (source (headOf p))) e in
-        let long = not-true (lengthWrong (length p) (headOf p)) (and-left (not (lengthWrong (length p) (headOf p))) (headWithin p (headOf p)) ordered) in
-        let unlike = or-false (ltb (length p) headerSize || ltb 1460 (length p)) (not (eqb (length p) (headOf p .cut .bsize))) long .1 in
-        eqb-true (length p) (headOf p .cut .bsize) (not-false (eqb (length p) (headOf p .cut .bsize)) unlike)
-sized-seen a (alive p ∷ h) = sized-seen a h
-sized-seen a (clock now ∷ h) = sized-seen a h
-sized-seen a (question ∷ h) = sized-seen a h
-
 -- "nothing is open" at setup.
 new-closed : (l : List Address) (k i : ℕ) → k ≤ 16 → i < k → getD (newSenders l k) i noSender .«open» ≡ false
 unfolding newSenders
@@ -172,58 +155,158 @@ start-closed w s i less = closed (setupWithin (s .given)) refl
         let is : w .state ≡ emptyReceiver = s .state ∙ rw e in
         absurd (omega (arith, less, ap (λ (x : Receiver). x .count) is))
 
--- What is delivered after a past is the join of the packets accepted since its message opened, as its sender saw them.
-module _ (w₀ : World) (start : Start w₀) (h : List Event) (p : List ℕ) (vd : Verdict)
-    (gave : messageAnswer (left w₀ h .state) (length (left w₀ h .storage)) p .outcome ≡ Delivered vd) where
+-- ---- the packets accepted since, by the answers and by the sender's record
+
+-- A packet in order is as long as it says.
+in-order-size : (packet : List ℕ) → inOrder packet ≡ true → length packet ≡ headOf packet .cut .bsize
+unfolding inOrder
+in-order-size p e =
+    let long = not-true (lengthWrong (length p) (headOf p)) (and-left (not (lengthWrong (length p) (headOf p))) (headWithin p (headOf p)) e) in
+    let unlike = or-false (ltb (length p) headerSize || ltb 1460 (length p)) (not (eqb (length p) (headOf p .cut .bsize))) long .1 in
+    eqb-true (length p) (headOf p .cut .bsize) (not-false (eqb (length p) (headOf p .cut .bsize)) unlike)
+
+module _ (g : Settings) (a : Address) (i : ℕ) (w : World) (r : Registered g a i w) (packets : List (List ℕ)) (p : List ℕ) where
+  abbrev number : ℕ
+  number = messageNumber (w .state) (length (w .storage)) p
+
+  accepted-zero : isAccepted (answerTo w p) ≡ eqb number 0
+  accepted-zero = accepted-is (w .state) (length (w .storage)) p
+
+  -- A packet of the sender's own.
+  module _ (mine : isFrom a p ≡ true) where
+    own-address : sameAddress a (source (headOf p)) ≡ true
+    unfolding isFrom
+    own-address = and-right (inOrder p) (sameAddress a (source (headOf p))) mine
+
+    own-place : found (w .state) (headOf p) ≡ i
+    own-place = found-own (w .state) (r .sound .is-valid) i (r .here) p (rw (r .address) own-address)
+
+    own-opened : number ≡ 0 → hasOpened p (answerTo w p) ≡ not (rejoins (view w i .sender) (headOf p))
+    unfolding messageAnswer taken admitted view rejoins
+    own-opened none =
+        let s = senderAt (w .state) i in
+        let is = number-at (w .state) (length (w .storage)) p (r .sound .is-valid) (r .sound .room) i (unfold isFrom in and-left (inOrder p) (sameAddress a (source (headOf p))) mine) own-place (r .here) in
+        rw (none, own-place)
+        (opens-is (w .state .n1) (w .state .clock) s p
+        (admitted-facts (w .state .test) (w .state .n1) s (headOf p) (sym is ∙ none))
+        (valid-sender (w .state) (r .sound .is-valid) i (r .here) .message))
+
+    own-accepted : acceptedWith a packets w p ≡ cond (eqb (numberOf g (view w i) p) 0) (p ∷ cond (rejoins (view w i .sender) (headOf p)) packets []) packets
+    unfolding acceptedWith
+    own-accepted = rw (own-address, accepted-zero, ← registered-number g a i w r p mine) (⊎-elim
+        (λ (e : number ≡ 0). rw (eq-eqb number 0 e, own-opened e) (turned (rejoins (view w i .sender) (headOf p))))
+        (λ (e : number ≢ 0). rw (ne-eqb number 0 e))
+        (eq-or-ne number 0))
+      where
+        turned : (b : Bool) → p ∷ cond (not b) [] packets ≡ p ∷ cond b packets []
+        turned true = refl
+        turned false = refl
+
+  -- Any other packet.
+  other-accepted : isFrom a p ≡ false → acceptedWith a packets w p ≡ packets
+  unfolding acceptedWith isFrom
+  other-accepted e = rw accepted-zero (⊎-elim
+      (λ (t : sameAddress a (source (headOf p)) ≡ true). rw (t, ne-eqb number 0 (out-of-order (w .state) (length (w .storage)) p (r .sound .is-valid) (r .sound .room) (unordered t))))
+      (λ (f : sameAddress a (source (headOf p)) ≡ false). rw f)
+      (true-or-false (sameAddress a (source (headOf p)))))
+    where
+      unordered : sameAddress a (source (headOf p)) ≡ true → inOrder p ≡ false
+      unordered t = ⊎-elim
+          (λ (o : inOrder p ≡ true). absurd (never-both (both (inOrder p) (sameAddress a (source (headOf p))) o t) e))
+          (λ f. f)
+          (true-or-false (inOrder p))
+
+-- ---- every past
+
+module _ (g : Settings) (a : Address) (i : ℕ) where
+  inv-step : (w : World) → Registered g a i w → (packets : List (List ℕ)) → Inv packets (view w i) → (e : Event) → Inv (acceptedBy a packets w e) (view (step w e) i)
+  unfolding seen stepView
+  inv-step w r packets inv (message p) = subst (Inv (acceptedWith a packets w p)) (sym (registered-view g a i w r (message p))) (⊎-elim
+      (λ (e : isFrom a p ≡ true).
+      rw (e, own-accepted g a i w r packets p e)
+      (next-inv packets g (view w i) p inv (in-order-size p (unfold isFrom in and-left (inOrder p) (sameAddress a (source (headOf p))) e))))
+      (λ (e : isFrom a p ≡ false). rw (e, other-accepted g a i w r packets p e) inv)
+      (true-or-false (isFrom a p)))
+  inv-step w r packets inv (alive p) = subst (Inv packets) (sym (registered-view g a i w r (alive p))) inv
+  inv-step w r packets inv (clock now) = subst (Inv packets) (sym (registered-view g a i w r (clock now))) (tick-inv packets g (view w i) now inv)
+  inv-step w r packets inv question = subst (Inv packets) (sym (registered-view g a i w r question)) inv
+
+  inv-after : (w : World) → Registered g a i w → (packets : List (List ℕ)) → Inv packets (view w i) → (es : List Event)
+      → Inv (acceptedSince a packets w es) (view (after w es) i)
+  unfolding acceptedSince after
+  inv-after w r packets inv [] = inv
+  inv-after w r packets inv (e ∷ es) = inv-after (step w e) (registered-step g a i w r e) (acceptedBy a packets w e) (inv-step w r packets inv e) es
+
+-- Nothing is open at setup, so nothing was accepted for it.
+pub start-inv : (w : World) → Start w → (i : ℕ) → i < w .state .count → Inv [] (view w i)
+unfolding view
+start-inv w s i here =
+    let room = start-sound w s .room in
+    record {
+      room = length-run (i * area) area (w .storage) (omega (arith, room, mul-le-mul-right {m = suc i} {n = w .state .count} area here, suc-mul i area));
+      good = λ o. absurd (never-both o (start-closed w s i here));
+    }
+
+pub start-registered : (w : World) → Start w → (i : ℕ) → i < w .state .count → Registered (settingsFrom (w .state)) (addressAt (w .state .senders) i) i w
+start-registered w s i here = record { sound = start-sound w s; here = here; settings = refl; address = refl }
+
+module _ (w : World) (start : Start w) (es : List Event) (p : List ℕ) (vd : Verdict) (gave : answerTo (after w es) p .outcome ≡ Delivered vd) where
   abbrev w₁ : World
-  w₁ = left w₀ h
+  w₁ = after w es
 
-  abbrev place₁ : ℕ
-  place₁ = found (w₁ .state) (headOf p)
+  abbrev i₁ : ℕ
+  i₁ = found (w₁ .state) (headOf p)
 
-  abbrev address₀ : Address
-  address₀ = addressAt (w₀ .state .senders) place₁
+  abbrev a₁ : Address
+  a₁ = source (headOf p)
 
-  abbrev g₀ : Settings
-  g₀ = settingsFrom (w₀ .state)
-
-  abbrev seen₀ : List Seen
-  seen₀ = map (seen address₀) h
-
-  sound₀ : Sound w₀
-  sound₀ = start-sound w₀ start
+  abbrev g₁ : Settings
+  g₁ = settingsFrom (w .state)
 
   sound₁ : Sound w₁
-  sound₁ = left-sound w₀ sound₀ h
+  sound₁ = past-sound w start es
 
-  here₁ : place₁ < w₁ .state .count
-  here₁ = passed w₁ sound₁ p vd gave .registered
+  here₁ : i₁ < w .state .count
+  here₁ = omega (arith, passed w₁ sound₁ p vd gave .registered, after-count w es)
 
-  here₀ : place₁ < w₀ .state .count
-  here₀ = omega (arith, here₁, left-count w₀ sound₀ h)
+  stands : Registered g₁ (addressAt (w .state .senders) i₁) i₁ w₁
+  stands = registered-after g₁ (addressAt (w .state .senders) i₁) i₁ w (start-registered w start i₁ here₁) es
 
-  view-is : view w₁ place₁ ≡ afterView g₀ (view w₀ place₁) seen₀
-  view-is = view-left w₀ sound₀ place₁ here₀ h
+  -- The packet's source is the address at its sender's place.
+  is-source : addressAt (w .state .senders) i₁ ≡ a₁
+  unfolding isFrom
+  is-source =
+      sym (stands .address)
+      ∙ same-is (addressAt (w₁ .state .senders) i₁) a₁ (and-right (inOrder p) (sameAddress (addressAt (w₁ .state .senders) i₁) a₁) (from-sender w₁ sound₁ p vd gave))
 
-  inv₁ : Inv (sinceView g₀ (view w₀ place₁) seen₀) (view w₁ place₁)
-  inv₁ = subst (Inv (sinceView g₀ (view w₀ place₁) seen₀)) (sym view-is)
-      (inv-after g₀ (view w₀ place₁) (unfold view in start-closed w₀ start place₁ here₀) octets₀ seen₀ (sized-seen address₀ h))
-    where
-      octets₀ : length (view w₀ place₁ .octets) ≡ area
-      octets₀ = unfold view in length-run (place₁ * area) area (w₀ .storage) (omega (arith, sound₀ .room, mul-le-mul-right {m = suc place₁} {n = w₀ .state .count} area here₀, suc-mul place₁ area))
+  registered₁ : Registered g₁ a₁ i₁ w₁
+  registered₁ = subst (λ (x : Address). Registered g₁ x i₁ w₁) is-source stands
 
-  settings-is : settingsFrom (w₁ .state) ≡ g₀
-  settings-is = left-settings w₀ sound₀ h
+  abbrev packets₁ : List (List ℕ)
+  packets₁ = acceptedSince a₁ [] w es
 
-  no-number : numberOf g₀ (view w₁ place₁) p ≡ 0
-  no-number =
-      subst (λ (x : Settings). numberOf x (view w₁ place₁) p ≡ 0) settings-is
-      (sym (number-is w₁ sound₁ place₁ here₁ p (from-sender w₁ sound₁ p vd gave)) ∙ none w₁ sound₁ p vd gave)
+  inv₁ : Inv packets₁ (view w₁ i₁)
+  inv₁ = subst (λ (x : Address). Inv (acceptedSince x [] w es) (view w₁ i₁)) is-source
+      (inv-after g₁ (addressAt (w .state .senders) i₁) i₁ w (start-registered w start i₁ here₁) [] (start-inv w start i₁ here₁) es)
 
-  pub safe-left : Joined (p ∷ cond (rejoins (view w₁ place₁ .sender) (headOf p)) (sinceView g₀ (view w₀ place₁) seen₀) []) p
-      (partOf (messageAnswer (w₁ .state) (length (w₁ .storage)) p .place) p (messageStorage (w₁ .state) (w₁ .storage) p))
-  safe-left =
-      let a = admitted-facts (g₀ .test) (g₀ .n1) (view w₁ place₁ .sender) (headOf p) no-number in
-      let fill : fills (view w₁ place₁ .sender) (headOf p) ≡ true = unfold view in (fills-joining (senderAt (w₁ .state) place₁) (headOf p) ∙ full w₁ sound₁ p vd gave) in
-      subst (Joined (p ∷ cond (rejoins (view w₁ place₁ .sender) (headOf p)) (sinceView g₀ (view w₀ place₁) seen₀) []) p) (sym (part-is w₁ sound₁ p vd gave))
-      (delivered-joined (sinceView g₀ (view w₀ place₁) seen₀) g₀ (view w₁ place₁) p inv₁ a (passed w₁ sound₁ p vd gave .size) fill)
+  mine₁ : isFrom a₁ p ≡ true
+  mine₁ = subst (λ (x : Address). isFrom x p ≡ true) (registered₁ .address) (from-sender w₁ sound₁ p vd gave)
+
+  none₁ : numberOf g₁ (view w₁ i₁) p ≡ 0
+  none₁ = sym (registered-number g₁ a₁ i₁ w₁ registered₁ p mine₁) ∙ none w₁ sound₁ p vd gave
+
+  accepted₁ : acceptedWith a₁ packets₁ w₁ p ≡ p ∷ cond (rejoins (view w₁ i₁ .sender) (headOf p)) packets₁ []
+  accepted₁ = own-accepted g₁ a₁ i₁ w₁ registered₁ packets₁ p mine₁ ∙ rw none₁
+
+  join₁ : Joined (p ∷ cond (rejoins (view w₁ i₁ .sender) (headOf p)) packets₁ []) p (partView (view w₁ i₁) p)
+  join₁ =
+      let fill : fills (view w₁ i₁ .sender) (headOf p) ≡ true = unfold view in (fills-joining (senderAt (w₁ .state) i₁) (headOf p) ∙ full w₁ sound₁ p vd gave) in
+      delivered-joined packets₁ g₁ (view w₁ i₁) p inv₁ (admitted-facts (g₁ .test) (g₁ .n1) (view w₁ i₁ .sender) (headOf p) none₁) (passed w₁ sound₁ p vd gave .size) fill
+
+  safe-join : Joined (acceptedWith a₁ packets₁ w₁ p) p (partTo w₁ p)
+  safe-join = rw (accepted₁, part-is w₁ sound₁ p vd gave) join₁
+
+-- "Whether or not those conditions hold, nothing is ever delivered but a join of pieces accepted since that message last opened, one for
+-- each piece number."
+pub safe : (w : World) → Start w → (es : List Event) (packet : List ℕ) → Safe w es packet
+safe w start es packet v gave = safe-join w start es packet v gave

@@ -83,8 +83,3 @@ unfoldable pub stepView : Settings → View → Seen → View
 stepView g v (own packet) = nextView g v packet
 stepView g v (time now) = tickView g v now
 stepView g v other = v
-
--- The latest call first.
-unfoldable pub afterView : Settings → View → List Seen → View
-afterView g v [] = v
-afterView g v (e ∷ h) = stepView g (afterView g v h) e

@@ -3,7 +3,7 @@ use Prim.Native.Nat.{ℕ, suc, _+_, _*_, _≤_, _<_}
 use mathlib.Core.Path.{_≡_, refl, sym, ap, _∙_}
 use mathlib.Core.Logic.{_≢_, ⊎-elim}
 use mathlib.Core.Bool.{Bool, true, false, not, _||_}
-use mathlib.Core.List.{List, [], _∷_, map}
+use mathlib.Core.List.{List, [], _∷_}
 use native.Mathlib.Nat.{mul-le-mul-right, suc-mul}
 use native.Mathlib.Omega.{arith}
 use lib.Dec.{eqb, ltb}
@@ -39,10 +39,10 @@ use Rattle.rules.specs.ClockLaws.{aged-done, clock-back, clock-on}
 use Rattle.rules.specs.First.{first}
 use Rattle.rules.specs.Message.{area, lengthWrong, headWithin, messageRows, messageNumber, storageAfter, withSender, taken, refused, messageAnswer, messageStorage}
 use Rattle.rules.specs.MessageLaws.{Passed, taken-facts}
-use Rattle.rules.specs.Past.{World, Event, message, alive, clock, question, step}
+use Rattle.rules.specs.Past.{World, Event, message, alive, clock, question, step, after}
 use Rattle.rules.specs.PastLaws.{Sound, same-count, step-sound}
 use Rattle.rules.specs.QuestionLaws.{first-of, first-holds}
-use Rattle.rules.specs.View.{Settings, settingsFrom, View, joining, view, inOrder, isFrom, own, other, seen, numberOf, put, nextView, tickView, stepView, afterView}
+use Rattle.rules.specs.View.{Settings, settingsFrom, View, joining, view, inOrder, isFrom, own, other, seen, numberOf, put, nextView, tickView, stepView}
 
 -- ---- a packet in order comes as far as its sender's place
 
@@ -364,41 +364,34 @@ module _ (w : World) (sound : Sound w) (i : ℕ) (here : i < w .state .count) wh
   same-address (clock now) = clock-address now
   same-address question = refl
 
--- ---- the whole past, the latest call first
+-- ---- a registered sender, through every call
 
-unfoldable pub left : World → List Event → World
-left w [] = w
-left w (e ∷ h) = step (left w h) e
+-- The sender with this address stands at place i, under these settings.
+pub record Registered (g : Settings) (a : Address) (i : ℕ) (w : World) : Type 0 where
+  pub sound : Sound w
+  pub here : i < w .state .count
+  pub settings : settingsFrom (w .state) ≡ g
+  pub address : addressAt (w .state .senders) i ≡ a
 
-pub left-sound : (w : World) → Sound w → (h : List Event) → Sound (left w h)
-unfolding left
-left-sound w sound [] = sound
-left-sound w sound (e ∷ h) = step-sound (left w h) e (left-sound w sound h)
+module _ (g : Settings) (a : Address) (i : ℕ) (w : World) (r : Registered g a i w) where
+  pub registered-step : (e : Event) → Registered g a i (step w e)
+  registered-step e = record {
+    sound = step-sound w e (r .sound);
+    here = omega (arith, r .here, same-count w e);
+    settings = same-settings w e ∙ r .settings;
+    address = same-address w (r .sound) i (r .here) e ∙ r .address;
+  }
 
-module _ (w : World) (sound : Sound w) where
-  pub left-settings : (h : List Event) → settingsFrom (left w h .state) ≡ settingsFrom (w .state)
-  unfolding left
-  left-settings [] = refl
-  left-settings (e ∷ h) = same-settings (left w h) e ∙ left-settings h
+  -- What a call does to the sender's view is what it is to the sender.
+  pub registered-view : (e : Event) → view (step w e) i ≡ stepView g (view w i) (seen a e)
+  registered-view e = view-step w (r .sound) i (r .here) e ∙ rw (r .settings, r .address)
 
-  pub left-count : (h : List Event) → left w h .state .count ≡ w .state .count
-  unfolding left
-  left-count [] = refl
-  left-count (e ∷ h) = same-count (left w h) e ∙ left-count h
+  pub registered-number : (packet : List ℕ) → isFrom a packet ≡ true → messageNumber (w .state) (length (w .storage)) packet ≡ numberOf g (view w i) packet
+  registered-number packet mine =
+      number-is w (r .sound) i (r .here) packet (rw (r .address) mine)
+      ∙ ap (λ (x : Settings). numberOf x (view w i) packet) (r .settings)
 
-  module _ (i : ℕ) (here : i < w .state .count) where
-    left-here : (h : List Event) → i < left w h .state .count
-    left-here h = omega (arith, left-count h)
-
-    left-address : (h : List Event) → addressAt (left w h .state .senders) i ≡ addressAt (w .state .senders) i
-    unfolding left
-    left-address [] = refl
-    left-address (e ∷ h) = same-address (left w h) (left-sound w sound h) i (left-here h) e ∙ left-address h
-
-    -- What the sender sees of a past is the past as it is seen.
-    pub view-left : (h : List Event) → view (left w h) i ≡ afterView (settingsFrom (w .state)) (view w i) (map (seen (addressAt (w .state .senders) i)) h)
-    unfolding left afterView
-    view-left [] = refl
-    view-left (e ∷ h) =
-        view-step (left w h) (left-sound w sound h) i (left-here h) e
-        ∙ rw (left-settings h, left-address h, view-left h)
+pub registered-after : (g : Settings) (a : Address) (i : ℕ) (w : World) → Registered g a i w → (es : List Event) → Registered g a i (after w es)
+unfolding after
+registered-after g a i w r [] = r
+registered-after g a i w r (e ∷ es) = registered-after g a i (step w e) (registered-step g a i w r e) es

@@ -1,6 +1,6 @@
 -- Laws of the limits, taken apart and put together: what number 9 looks at in an open message, in a sender, at each place of the
 -- table and in the whole state, and what keeps a table within its limits. Assumes nothing.
-use mathlib.Core.Path.{_≡_, refl, sym, ap, _∙_}
+use mathlib.Core.Path.{_≡_, refl, sym, ap, subst, _∙_}
 use mathlib.Core.Logic.{_≢_, ⊎-elim}
 use mathlib.Core.Bool.{Bool, true, false, not, _&&_, _||_, false≢true}
 use mathlib.Core.List.{List}
@@ -223,12 +223,12 @@ pub valid-apart : (w : Receiver) → valid w ≡ true → (i : ℕ) → i < w .c
 valid-apart w e i here j less =
     new-each (addressAt (w .senders)) i (addressAt (w .senders) i) (senders-each (w .clock) (w .senders) (w .count) (valid-senders w e) i here .new) j less
 
+pub same-is : (a b : Address) → sameAddress a b ≡ true → a ≡ b
+same-is a b e =
+    let field = eqb-true (a .field .0) (b .field .0) (and-left (eqb (a .field .0) (b .field .0)) (eqb (a .node .0) (b .node .0)) e) in
+    let node = eqb-true (a .node .0) (b .node .0) (and-right (eqb (a .field .0) (b .field .0)) (eqb (a .node .0) (b .node .0)) e) in
+    λ i. record { field = record { 0 = field i }; node = record { 0 = node i } }
+
 -- Two addresses that are the same as a third are the same.
 pub same-both : (a b c : Address) → sameAddress a c ≡ true → sameAddress b c ≡ true → sameAddress a b ≡ true
-same-both a b c e f =
-    let field = eqb-true (a .field .0) (c .field .0) (and-left (eqb (a .field .0) (c .field .0)) (eqb (a .node .0) (c .node .0)) e) in
-    let node = eqb-true (a .node .0) (c .node .0) (and-right (eqb (a .field .0) (c .field .0)) (eqb (a .node .0) (c .node .0)) e) in
-    let field2 = eqb-true (b .field .0) (c .field .0) (and-left (eqb (b .field .0) (c .field .0)) (eqb (b .node .0) (c .node .0)) f) in
-    let node2 = eqb-true (b .node .0) (c .node .0) (and-right (eqb (b .field .0) (c .field .0)) (eqb (b .node .0) (c .node .0)) f) in
-    both (eqb (a .field .0) (b .field .0)) (eqb (a .node .0) (b .node .0))
-    (eq-eqb (a .field .0) (b .field .0) (field ∙ sym field2)) (eq-eqb (a .node .0) (b .node .0) (node ∙ sym node2))
+same-both a b c e f = subst (λ (x : Address). sameAddress a x ≡ true) (sym (same-is b c f)) e
