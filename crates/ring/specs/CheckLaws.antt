@@ -1,16 +1,17 @@
 -- Facts of the number check, over any kept version RV and number R: exactly one verdict applies. Assumes nothing.
-use mathlib.Core.Path.{_≡_, sym, _∙_}
+use mathlib.Core.Path.{_≡_, refl, sym, _∙_}
 use mathlib.Core.Logic.{_≢_, ⊎-elim}
-use mathlib.Core.Bool.{false, cond, _&&_}
+use mathlib.Core.Bool.{false, not, cond, _&&_}
 use Prim.Native.Nat.{ℕ, _-_, _≤_, _<_}
+use native.Mathlib.Omega.{arith}
 use lib.Dec.{eqb, ltb}
 use borrow.Author.Tests.{eqb-true, eq-eqb, ne-eqb, lt-ltb, le-ltb}
-use Rattle.octets.specs.Split.{lt-or-le, eq-or-ne, not-both}
+use Rattle.octets.specs.Split.{lt-or-le, eq-or-ne, not-both, cond-case}
 use Rattle.ring.specs.declared.Verdict.{Verdict}
 use Rattle.ring.specs.declared.Verdict.the-variants.{Unchecked, First, Restart, Repeat, Next, Gap}
 use Rattle.ring.specs.Ring.{M, back, skipped}
-use Rattle.ring.specs.RingLaws.{skipped-back}
-use Rattle.ring.specs.Check.{check, rule4}
+use Rattle.ring.specs.RingLaws.{remainder-only, skipped-back}
+use Rattle.ring.specs.Check.{check, rule4, isUnchecked}
 
 -- Rule 4 by the distance alone.
 pub rule4-by-distance : (n1 r s d : ℕ) → d ≡ back r s
@@ -105,3 +106,22 @@ module _ (n1 rv r v s : ℕ) where
   -- And the check's does.
   pub says-check : Says (check n1 rv r v s)
   says-check = rw (says-only (some-1 .1)) at (some-1 .1)
+
+-- ---- of a version that is not 0
+
+-- What is delivered is then stored as the last number,
+pub is-checked : (n1 rv r v s : ℕ) → v ≢ 0 → isUnchecked (check n1 rv r v s) ≡ false
+unfolding check rule4
+is-checked n1 rv r v s some =
+    rw (ne-eqb v 0 some)
+    (cond-case (λ (x : Verdict). isUnchecked x ≡ false) (eqb rv 0) First _ (λ _. refl)
+    (λ _. cond-case (λ (x : Verdict). isUnchecked x ≡ false) (not (eqb v rv)) Restart _ (λ _. refl)
+    (λ _. cond-case (λ (x : Verdict). isUnchecked x ≡ false) (ltb (back r s) n1) Repeat _ (λ _. refl)
+    (λ _. cond-case (λ (x : Verdict). isUnchecked x ≡ false) (eqb (back r s) (M - 1)) Next (Gap (skipped r s)) (λ _. refl) (λ _. refl)))))
+
+-- and the last number again is a repeat.
+pub check-again : (n1 v s : ℕ) → v ≢ 0 → 1 ≤ n1 → check n1 v s v s ≡ Repeat
+check-again n1 v s some one =
+    let here : 0 ≡ back s s = remainder-only s s 0 (omega arith) (omega arith) in
+    check-rule4 n1 v s v s (λ e. some (e .0)) some refl
+    ∙ rule4-repeat n1 v s v s (omega (arith, here))

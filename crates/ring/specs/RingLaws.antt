@@ -1,5 +1,5 @@
 -- Laws of the ring. Assumes nothing.
-use mathlib.Core.Path.{_≡_}
+use mathlib.Core.Path.{_≡_, refl}
 use mathlib.Core.Logic.{_≢_, ⊎-elim}
 use mathlib.Core.Bool.{true, false}
 use Prim.Native.Nat.{ℕ, _+_, _-_, _%_, _≤_, _<_}
@@ -57,3 +57,11 @@ one-order a b ha hb = ⊎-elim
     (λ (n : a ≢ b). isNewer n (lt-ltb b a (omega arith)) (le-ltb a b h))
     (eq-or-ne a b))
     (lt-or-le a b)
+
+pub not-newer : (a : ℕ) → OnRing a → newer a a ≡ false
+not-newer a on = by (one-order a a on on)
+  where
+    by : Order a a → newer a a ≡ false
+    by (same e f g) = f
+    by (isNewer n f g) = absurd (n refl)
+    by (isOlder n f g) = f

@@ -1,16 +1,17 @@
 -- Laws of the clock call. Assumes nothing.
 use mathlib.Core.Path.{_≡_, refl, ap, _∙_}
+use mathlib.Core.Logic.{_≢_, ⊎-elim}
 use mathlib.Core.Bool.{Bool, true, false, not, cond, _||_}
 use mathlib.Core.List.{List, [], _∷_}
 use Prim.Native.Nat.{ℕ, zero, suc, _+_, _*_, _%_, _^_, _≤_, _<_}
-use native.Mathlib.Nat.{mod-eq-of-lt, one-mul}
+use native.Mathlib.Nat.{mod-eq-of-lt, one-mul, add-zero}
 use native.Mathlib.Numerals.{add-one}
 use native.Mathlib.Omega.{arith}
 use lib.Dec.{ltb}
 use lib.ListN.{length, getD, set, length-set}
 use lib.Pow.{pow-mono, pow-lt}
 use lib.Seq.{getD-set-other}
-use Rattle.octets.specs.Split.{cond-case}
+use Rattle.octets.specs.Split.{cond-case, eq-or-ne}
 use Rattle.state.specs.declared.Sender.{Sender}
 use Rattle.state.specs.declared.Receiver.{Receiver}
 use Rattle.rules.specs.declared.answers.Call.the-variants.{Done}
@@ -18,6 +19,8 @@ use Rattle.rules.specs.Clock.{clockRows, drops, dies, aged, agedSenders,
 use Rattle.rules.specs.First.{row, first}
 use Rattle.rules.specs.FirstLaws.{first-here, first-later}
 use Rattle.state.specs.Limits.{valid, clockMost}
+use Rattle.state.specs.Map.{bit}
+use Rattle.state.specs.MapLaws.{bit-set, bit-keep, bit-above}
 use Rattle.state.specs.State.{noSender}
 use Rattle.state.specs.WithinLaws.{written-place}
 
@@ -104,3 +107,17 @@ shift-sixteen i h =
 
 pub place-fits : (i m : ℕ) → i < 16 → m < 2 ^ i → m + 2 ^ i < 65536
 place-fits i m h l = omega (arith, pow-mono {i = suc i} {j = 16} h)
+
+-- A sender's bit tells whether it holds of that sender.
+pub map-bit : (f : Sender → Bool) (l : List Sender) (k i : ℕ) → i < k → bit i (mapWhere f l k) ≡ cond (f (getD l i noSender)) 1 0
+unfolding mapWhere
+map-bit f l zero i less = absurd (omega arith)
+map-bit f l (suc k) i less =
+    let m = mapWhere f l k in
+    let clear : bit k m ≡ 0 = bit-above k k m (map-below f l k) (omega arith) in
+    ⊎-elim
+    (λ (e : i ≡ k). rw e (cond-case (λ (x : ℕ). bit k (m + x) ≡ cond (f (getD l k noSender)) 1 0) (f (getD l k noSender)) (2 ^ k) 0
+    (λ y. rw y (bit-set k m clear)) (λ n. rw (n, add-zero m) clear)))
+    (λ (e : i ≢ k). cond-case (λ (x : ℕ). bit i (m + x) ≡ cond (f (getD l i noSender)) 1 0) (f (getD l k noSender)) (2 ^ k) 0
+    (λ y. bit-keep i k m clear e ∙ map-bit f l k i (omega arith)) (λ n. rw (add-zero m) (map-bit f l k i (omega arith))))
+    (eq-or-ne i k)

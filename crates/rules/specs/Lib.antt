@@ -30,3 +30,6 @@ pub mod JoinLaws
 pub mod Accepted
 pub mod AcceptedLaws
 pub mod SafeLaws
+pub mod Delivery
+pub mod PieceLaws
+pub mod PhaseLaws
