@@ -33,3 +33,4 @@ pub mod SafeLaws
 pub mod Delivery
 pub mod PieceLaws
 pub mod PhaseLaws
+pub mod DeliveryLaws

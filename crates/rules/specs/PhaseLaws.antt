@@ -22,13 +22,13 @@ use Rattle.state.specs.declared.Message.{Message}
 use Rattle.state.specs.declared.Sender.{Sender}
 use Rattle.state.specs.Map.{bit, holds, pieceBit, fullMap}
 use Rattle.state.specs.MapLaws.{bit-set, bit-keep, bit-zero, set-below, full-bit, full-only, holds-not}
-use Rattle.rules.specs.declared.answers.Outcome.{Outcome}
 use Rattle.rules.specs.declared.answers.Outcome.the-variants.{Refused, Stored, Delivered}
 use Rattle.rules.specs.Admit.{fills, mapAfter, verdictOf, messageOf, opened, closed, lastBy, senderAfter, admitted}
+use Rattle.rules.specs.Clock.{drops, aged}
 use Rattle.rules.specs.Delivery.{Sent, count, Numbered, PieceOf, isOpen, verdictFor}
 use Rattle.rules.specs.Join.{kinIn}
 use Rattle.rules.specs.PieceLaws.{Cuttable, kinFor, first-numbered, piece-kin, piece-on-ring, mapOf, larger, verdict-is, number-again, number-new, map-is, fills-is}
-use Rattle.rules.specs.View.{Settings, View, numberOf, put, nextView}
+use Rattle.rules.specs.View.{Settings, View, joining, numberOf, outcomeView, put, nextView}
 
 -- Pieces are missing. C is which pieces came; the check still says what it said of the last number at the start.
 pub record Unfinished (m : Sent) (last : Last) (C : ℕ → Type 0) (s : Sender) : Type 0 where
@@ -78,13 +78,6 @@ phase-start m k s none shut =
     }
 
 -- ---- the arrival of a piece
-
--- What is answered, by the sender's view.
-abbrev pub outcomeView : Settings → View → List ℕ → Outcome
-outcomeView g v p =
-    cond (eqb (numberOf g v p) 0)
-    (cond (fills (v .sender) (headOf p)) (Delivered (verdictOf (g .n1) (v .sender) (headOf p))) Stored)
-    (Refused (numberOf g v p))
 
 module _ (g : Settings) (m : Sent) (k : Cuttable m) (admits : eqb (m .mode) 1 && not (g .test) ≡ false) (some : m .version ≢ 0) (last : Last)
     (new : isRepeat (verdictFor (g .n1) m last) ≡ false) (v : View) (C : ℕ → Type 0) (c : ℕ) (p : List ℕ) (is : PieceOf m c p) where
@@ -239,3 +232,53 @@ module _ (g : Settings) (m : Sent) (k : Cuttable m) (admits : eqb (m .mode) 1 &&
   pub phase-once : 1 ≤ g .n1 → Phase m last C s → ((d : ℕ) → Numbered m d → C d) → outcomeView g v p ≡ Refused 17
   phase-once one (inl f) all = absurd (some-missing f all)
   phase-once one (inr f) all = rw (number-finished one f)
+
+-- ---- a clock call that keeps the message
+
+and-true : (b : Bool) → b && true ≡ b
+and-true true = refl
+and-true false = refl
+
+and-false : (b : Bool) → b && false ≡ false
+and-false true = refl
+and-false false = refl
+
+module _ (m : Sent) (last : Last) (C : ℕ → Type 0) (t now : ℕ) (s : Sender) where
+  abbrev later : Sender
+  later = joining (aged t now s)
+
+  kept-same : drops t now s ≡ false → later ≡ joining s
+  unfolding aged
+  kept-same e = rw (e, and-true (s .«open»))
+
+  -- Another message of the sender was open, and is dropped.
+  module _ (e : drops t now s ≡ true) (other : isOpen m s ≡ false) where
+    shut : later .«open» ≡ false
+    unfolding aged
+    shut = rw (e, and-false (s .«open»))
+
+    no-map : mapOf m s ≡ mapOf m later
+    unfolding isOpen
+    no-map = rw (shut, other)
+
+    dropped-phase : Phase m last C s → Phase m last C later
+    unfolding aged
+    dropped-phase (inl f) = inl (record {
+      same-last = f .same-last;
+      none-larger = rw shut;
+      kin = λ o. absurd (never-both o (unfold isOpen in rw shut));
+      room = rw (← no-map) (f .room);
+      missing = rw (← no-map) (f .missing);
+      held = rw (← no-map) (f .held);
+      came = rw (← no-map) (f .came);
+    })
+    dropped-phase (inr f) = inr (record { all = f .all; version = f .version; number = f .number })
+
+  pub phase-clock : joining s ≡ s → (isOpen m s ≡ true → drops t now s ≡ false) → Phase m last C s → Phase m last C later
+  phase-clock own kept f = ⊎-elim
+      (λ (e : drops t now s ≡ true). dropped-phase e (closed-then e) f)
+      (λ (e : drops t now s ≡ false). subst (Phase m last C) (sym (kept-same e ∙ own)) f)
+      (true-or-false (drops t now s))
+    where
+      closed-then : drops t now s ≡ true → isOpen m s ≡ false
+      closed-then e = ⊎-elim (λ (o : isOpen m s ≡ true). absurd (never-both e (kept o))) (λ o. o) (true-or-false (isOpen m s))

@@ -43,7 +43,7 @@ use Rattle.rules.specs.QuestionLaws.{first-holds}
 use Rattle.rules.specs.Setup.{setupWithin, newSenders, setupState, setupAnswer}
 use Rattle.rules.specs.SetupLaws.{setup-count}
 use Rattle.rules.specs.View.{Settings, settingsFrom, view, inOrder, isFrom, seen, numberOf, stepView}
-use Rattle.rules.specs.ViewLaws.{out-of-order, number-at, found-own, own-octets, fills-joining, Registered, registered-step, registered-view, registered-number, registered-after}
+use Rattle.rules.specs.ViewLaws.{out-of-order, number-at, own-octets, fills-joining, Registered, registered-step, registered-view, registered-number, registered-place, registered-after}
 
 module _ (w : World) (sound : Sound w) (p : List ℕ) (vd : Verdict) (gave : messageAnswer (w .state) (length (w .storage)) p .outcome ≡ Delivered vd) where
   abbrev h : Head
@@ -178,15 +178,12 @@ module _ (g : Settings) (a : Address) (i : ℕ) (w : World) (r : Registered g a 
     unfolding isFrom
     own-address = and-right (inOrder p) (sameAddress a (source (headOf p))) mine
 
-    own-place : found (w .state) (headOf p) ≡ i
-    own-place = found-own (w .state) (r .sound .is-valid) i (r .here) p (rw (r .address) own-address)
-
     own-opened : number ≡ 0 → hasOpened p (answerTo w p) ≡ not (rejoins (view w i .sender) (headOf p))
     unfolding messageAnswer taken admitted view rejoins
     own-opened none =
         let s = senderAt (w .state) i in
-        let is = number-at (w .state) (length (w .storage)) p (r .sound .is-valid) (r .sound .room) i (unfold isFrom in and-left (inOrder p) (sameAddress a (source (headOf p))) mine) own-place (r .here) in
-        rw (none, own-place)
+        let is = number-at (w .state) (length (w .storage)) p (r .sound .is-valid) (r .sound .room) i (unfold isFrom in and-left (inOrder p) (sameAddress a (source (headOf p))) mine) (registered-place g a i w r p mine) (r .here) in
+        rw (none, registered-place g a i w r p mine)
         (opens-is (w .state .n1) (w .state .clock) s p
         (admitted-facts (w .state .test) (w .state .n1) s (headOf p) (sym is ∙ none))
         (valid-sender (w .state) (r .sound .is-valid) i (r .here) .message))

@@ -2,7 +2,7 @@
 use Prim.Native.Nat.{ℕ, suc, _+_, _*_, _≤_, _<_}
 use mathlib.Core.Path.{_≡_, refl, sym, ap, _∙_}
 use mathlib.Core.Logic.{_≢_, ⊎-elim}
-use mathlib.Core.Bool.{Bool, true, false, not, _||_}
+use mathlib.Core.Bool.{Bool, true, false, not, cond, _||_}
 use mathlib.Core.List.{List, [], _∷_}
 use native.Mathlib.Nat.{mul-le-mul-right, suc-mul}
 use native.Mathlib.Omega.{arith}
@@ -29,8 +29,9 @@ use Rattle.state.specs.Table.{source, found}
 use Rattle.state.specs.WithinLaws.{valid-length, valid-apart, same-both}
 use Rattle.rules.specs.declared.answers.Answer.{Answer}
 use Rattle.rules.specs.declared.answers.Noted.{Noted}
+use Rattle.rules.specs.declared.answers.Outcome.the-variants.{Refused, Stored, Delivered}
 use Rattle.rules.specs.declared.answers.Ticked.{Ticked}
-use Rattle.rules.specs.Admit.{senderRows, rejoins, mapAfter, fills, senderAfter, admitted}
+use Rattle.rules.specs.Admit.{verdictOf, senderRows, rejoins, mapAfter, fills, senderAfter, admitted}
 use Rattle.rules.specs.Changes.{message-only, alive-only}
 use Rattle.rules.specs.Alive.{aliveRows, heardBy, aliveAnswer}
 use Rattle.rules.specs.AliveLaws.{alive-facts}
@@ -42,7 +43,7 @@ use Rattle.rules.specs.MessageLaws.{Passed, taken-facts}
 use Rattle.rules.specs.Past.{World, Event, message, alive, clock, question, step, after}
 use Rattle.rules.specs.PastLaws.{Sound, same-count, step-sound}
 use Rattle.rules.specs.QuestionLaws.{first-of, first-holds}
-use Rattle.rules.specs.View.{Settings, settingsFrom, View, joining, view, inOrder, isFrom, own, other, seen, numberOf, put, nextView, tickView, stepView}
+use Rattle.rules.specs.View.{Settings, settingsFrom, View, joining, view, inOrder, isFrom, own, other, seen, numberOf, outcomeView, put, nextView, tickView, stepView}
 
 -- ---- a packet in order comes as far as its sender's place
 
@@ -364,6 +365,22 @@ module _ (w : World) (sound : Sound w) (i : ℕ) (here : i < w .state .count) wh
   same-address (clock now) = clock-address now
   same-address question = refl
 
+-- ---- the answer
+
+answer-outcome : (b : Bool) (x y : Answer) → (cond {A = Answer} b x y) .outcome ≡ cond b (x .outcome) (y .outcome)
+answer-outcome true x y = refl
+answer-outcome false x y = refl
+
+outcome-at : (w : World) (i : ℕ) (packet : List ℕ) → found (w .state) (headOf packet) ≡ i → messageAnswer (w .state) (length (w .storage)) packet .outcome
+    ≡ cond (eqb (messageNumber (w .state) (length (w .storage)) packet) 0)
+    (cond (fills (senderAt (w .state) i) (headOf packet)) (Delivered (verdictOf (w .state .n1) (senderAt (w .state) i) (headOf packet))) Stored)
+    (Refused (messageNumber (w .state) (length (w .storage)) packet))
+unfolding messageAnswer taken refused admitted
+outcome-at w i packet at =
+    let number = messageNumber (w .state) (length (w .storage)) packet in
+    let k = found (w .state) (headOf packet) in
+    answer-outcome (eqb number 0) (taken (w .state) k (senderAt (w .state) k) (headOf packet)) (refused (w .state) number) ∙ rw at
+
 -- ---- a registered sender, through every call
 
 -- The sender with this address stands at place i, under these settings.
@@ -390,6 +407,14 @@ module _ (g : Settings) (a : Address) (i : ℕ) (w : World) (r : Registered g a 
   registered-number packet mine =
       number-is w (r .sound) i (r .here) packet (rw (r .address) mine)
       ∙ ap (λ (x : Settings). numberOf x (view w i) packet) (r .settings)
+
+  pub registered-place : (packet : List ℕ) → isFrom a packet ≡ true → found (w .state) (headOf packet) ≡ i
+  registered-place packet mine = at-place w (r .sound) i (r .here) packet (rw (r .address) mine)
+
+  pub registered-outcome : (packet : List ℕ) → isFrom a packet ≡ true → messageAnswer (w .state) (length (w .storage)) packet .outcome ≡ outcomeView g (view w i) packet
+  registered-outcome packet mine =
+      outcome-at w i packet (registered-place packet mine)
+      ∙ rw (registered-number packet mine, ← r .settings) (unfold view in rw (fills-joining (senderAt (w .state) i) (headOf packet)))
 
 pub registered-after : (g : Settings) (a : Address) (i : ℕ) (w : World) → Registered g a i w → (es : List Event) → Registered g a i (after w es)
 unfolding after
