@@ -183,7 +183,7 @@ module _ (w : Receiver) (m : List Sender) (a : AlikeTables (w .senders) m (w .co
       rw (← same-signal packet, ← same-found (headOf packet))
       (cond-two AlikeNoted (eqb k 0) (noted w i b) (notNoted w k) (noted other i b) (notNoted other k)
       (λ e. let p = alive-facts w packet (eqb-true k 0 e) in
-      record { same-call = refl; alike-state = alike-changed (λ s. heardBy (w .clock) s b) (changes-heard (w .clock) b) i (p .0) (p .1) })
+      record { same-call = refl; alike-state = alike-changed (λ s. heardBy (w .clock) s b) (changes-heard (w .clock) b) i (p .is-valid) (p .registered) })
       (λ e. record { same-call = refl; alike-state = alike-tables a }))
 
   -- The clock call.

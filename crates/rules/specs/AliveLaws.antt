@@ -16,7 +16,7 @@ use Rattle.header.specs.Head.{headOf}
 use Rattle.state.specs.declared.Address.{Address}
 use Rattle.state.specs.declared.Look.{Look}
 use Rattle.state.specs.declared.Receiver.{Receiver}
-use Rattle.rules.specs.Alive.{aliveLengthWrong, aliveHeadWithin, signalRows, aliveRows, noted, notNoted, aliveAnswer}
+use Rattle.rules.specs.Alive.{aliveLengthWrong, aliveHeadWithin, aliveWithin, signalRows, aliveRows, noted, notNoted, aliveAnswer}
 use Rattle.rules.specs.First.{first}
 use Rattle.rules.specs.FirstLaws.{first-here, first-none}
 use Rattle.state.specs.Limits.{sendersMost, valid}
@@ -24,16 +24,31 @@ use Rattle.state.specs.LimitsLaws.{valid-count}
 use Rattle.state.specs.Table.{source, found, lookAt}
 use Rattle.state.specs.TableLaws.{look-valid, look-place}
 
--- Where no number applies the state is valid and the sender registered.
-pub signal-facts : (ok : Bool) (count i : ℕ) (packet : List ℕ) (h : Head) (b : Body) → first (signalRows ok count i packet h b) ≡ 0 → (ok ≡ true) × (i < count)
+-- What is known where none of 9, 12, 13, 14 and 22 applies.
+pub record Heeded (ok : Bool) (count i : ℕ) (packet : List ℕ) (h : Head) (b : Body) : Type 0 where
+  pub is-valid : ok ≡ true
+  pub length-right : aliveLengthWrong (length packet) h ≡ false
+  pub head-within : aliveHeadWithin packet h ≡ true
+  pub registered : i < count
+  pub within : aliveWithin (length packet) h b ≡ true
+
+pub signal-facts : (ok : Bool) (count i : ℕ) (packet : List ℕ) (h : Head) (b : Body) → first (signalRows ok count i packet h b) ≡ 0 → Heeded ok count i packet h b
 signal-facts ok count i packet h b e =
     let r9 = first-none 9 (not ok) _ (λ z. omega arith) e in
     let r12 = first-none 12 (aliveLengthWrong (length packet) h) _ (λ z. omega arith) (r9 .1) in
     let r13 = first-none 13 (not (aliveHeadWithin packet h)) _ (λ z. omega arith) (r12 .1) in
     let r14 = first-none 14 (leb count i) _ (λ z. omega arith) (r13 .1) in
-    (not-false ok (r9 .0), leb-false count i (r14 .0))
+    let r22 = first-none 22 (not (aliveWithin (length packet) h b)) _ (λ z. omega arith) (r14 .1) in
+    record {
+      is-valid = not-false ok (r9 .0);
+      length-right = r12 .0;
+      head-within = not-false (aliveHeadWithin packet h) (r13 .0);
+      registered = leb-false count i (r14 .0);
+      within = not-false (aliveWithin (length packet) h b) (r22 .0);
+    }
 
-pub alive-facts : (w : Receiver) (packet : List ℕ) → first (aliveRows w packet) ≡ 0 → (valid w ≡ true) × (found w (headOf packet) < w .count)
+pub alive-facts : (w : Receiver) (packet : List ℕ) → first (aliveRows w packet) ≡ 0
+    → Heeded (valid w) (w .count) (found w (headOf packet)) packet (headOf packet) (bodyOf packet)
 unfolding aliveRows
 alive-facts w packet = signal-facts (valid w) (w .count) (found w (headOf packet)) packet (headOf packet) (bodyOf packet)
 
@@ -62,13 +77,13 @@ module _ (w : Receiver) (packet : List ℕ) (h : Head) (b : Body) (a : Address) 
     none : Rows ≡ 0
     none = sym number-rows ∙ number-none
 
-    facts : (l .valid ≡ true) × (l .at < w .count)
+    facts : Heeded (l .valid) (w .count) (l .at) packet h b
     facts = signal-facts (l .valid) (w .count) (l .at) packet h b none
 
     -- The place is one of the table's 16.
     pub signal-place : l .at < sendersMost
-    signal-place = omega (arith, facts .1, valid-count w (sym (look-valid w a l el) ∙ facts .0))
+    signal-place = omega (arith, facts .registered, valid-count w (sym (look-valid w a l el) ∙ facts .is-valid))
 
     pub signal-noted : noted w (l .at) b ≡ aliveAnswer w packet
     unfolding aliveAnswer
-    signal-noted = rw (← number-is, none, eb, look-place w (headOf packet) l look-is (facts .0))
+    signal-noted = rw (← number-is, none, eb, look-place w (headOf packet) l look-is (facts .is-valid))

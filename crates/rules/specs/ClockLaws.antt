@@ -11,7 +11,7 @@ use lib.Dec.{ltb}
 use lib.ListN.{length, getD, set, length-set}
 use lib.Pow.{pow-mono, pow-lt}
 use lib.Seq.{getD-set-other}
-use Rattle.octets.specs.Split.{cond-case, eq-or-ne}
+use Rattle.octets.specs.Split.{true-or-false, cond-case, eq-or-ne}
 use Rattle.state.specs.declared.Sender.{Sender}
 use Rattle.state.specs.declared.Receiver.{Receiver}
 use Rattle.rules.specs.declared.answers.Call.the-variants.{Done}
@@ -21,8 +21,8 @@ use Rattle.rules.specs.FirstLaws.{first-here, first-later}
 use Rattle.state.specs.Limits.{valid, clockMost}
 use Rattle.state.specs.Map.{bit}
 use Rattle.state.specs.MapLaws.{bit-set, bit-keep, bit-above}
-use Rattle.state.specs.State.{noSender}
-use Rattle.state.specs.WithinLaws.{written-place}
+use Rattle.state.specs.State.{noSender, senderAt}
+use Rattle.state.specs.WithinLaws.{written-place, valid-length}
 
 pub length-aged : (t now : ℕ) (l : List Sender) (k : ℕ) → length (agedSenders t now l k) ≡ length l
 unfolding agedSenders
@@ -74,6 +74,17 @@ module _ (w : Receiver) (now : ℕ) (e : valid w ≡ true) where
   pub clock-on : ltb now (w .clock) || ltb clockMost now ≡ false → ticked w now ≡ clockAnswer w now
   unfolding clockAnswer first
   clock-on f = rw (rest, f)
+
+  -- What it leaves of the time and of the sender at place i: what held of them before, or holds of them aged.
+  pub clock-at : (i : ℕ) → i < w .count → (P : ℕ → Sender → Type 0) → (ltb now (w .clock) || ltb clockMost now ≡ true → P (w .clock) (senderAt w i))
+      → (ltb now (w .clock) || ltb clockMost now ≡ false → P now (aged (w .t) now (senderAt w i)))
+      → P (clockAnswer w now .state .clock) (senderAt (clockAnswer w now .state) i)
+  unfolding ticked notTicked
+  clock-at i here P back on = ⊎-elim
+      (λ (f : ltb now (w .clock) || ltb clockMost now ≡ true). rw (← clock-back f) (back f))
+      (λ (f : ltb now (w .clock) || ltb clockMost now ≡ false).
+      rw (← clock-on f, aged-done (w .t) now (w .senders) (w .count) i (valid-length w e) here) (on f))
+      (true-or-false (ltb now (w .clock) || ltb clockMost now))
 
 -- ---- one turn of the loop
 

@@ -34,3 +34,5 @@ pub mod Delivery
 pub mod PieceLaws
 pub mod PhaseLaws
 pub mod DeliveryLaws
+pub mod AlivePast
+pub mod AlivePastLaws

@@ -1,21 +1,27 @@
 -- Of every past: the state stays valid, and the storage and the table of senders are of the size that they had. So no past meets 9 or 11.
-use Prim.Native.Nat.{ℕ, _*_}
-use mathlib.Core.Path.{_≡_, refl, sym, ap, _∙_}
-use mathlib.Core.Bool.{true}
+use Prim.Native.Nat.{ℕ, _*_, _<_}
+use mathlib.Core.Path.{_≡_, refl, sym, ap, subst, _∙_}
+use mathlib.Core.Bool.{Bool, true, false}
 use mathlib.Core.List.{List, [], _∷_}
+use native.Mathlib.Omega.{arith}
 use lib.Dec.{eqb}
 use lib.ListN.{length}
 use Rattle.octets.specs.RunLaws.{length-laid}
 use Rattle.octets.specs.Split.{cond-case}
 use Rattle.header.specs.Head.{headOf}
 use Rattle.state.specs.declared.Receiver.{Receiver}
-use Rattle.state.specs.Limits.{valid}
+use Rattle.state.specs.Limits.{valid, given}
+use Rattle.state.specs.State.{newSender, emptyReceiver, senderAt}
+use Rattle.state.specs.WithinLaws.{written-place}
+use Rattle.rules.specs.declared.answers.Started.{Started}
 use Rattle.rules.specs.declared.answers.Ticked.{Ticked}
 use Rattle.rules.specs.Changes.{message-only, alive-only}
 use Rattle.rules.specs.Clock.{clockRows, clockAnswer, ticked, notTicked}
 use Rattle.rules.specs.First.{first}
 use Rattle.rules.specs.Message.{area, messageNumber, messageStorage, storageAfter}
 use Rattle.rules.specs.Past.{World, Event, message, alive, clock, question, step, after, Start}
+use Rattle.rules.specs.Setup.{setupWithin, newSenders, setupState, setupAnswer}
+use Rattle.rules.specs.SetupLaws.{setup-count}
 use Rattle.rules.specs.ValidLaws.{setup-valid, message-valid, alive-valid, clock-valid}
 
 -- What every past keeps.
@@ -25,6 +31,27 @@ pub record Sound (w : World) : Type 0 where
 
 pub start-sound : (w : World) → Start w → Sound w
 start-sound w s = record { is-valid = rw (s .state) (setup-valid (s .given)); room = s .room }
+
+-- "At setup the clock is 0,
+pub start-clock : (w : World) → Start w → w .state .clock ≡ 0
+unfolding setupState setupAnswer
+start-clock w s = rw (s .state) (cond-case (λ (x : Started). x .state .clock ≡ 0) (setupWithin (s .given)) _ _ (λ _. refl) (λ _. refl))
+
+-- nobody is heard, nothing is open and every last version and number is 0."
+pub start-sender : (w : World) (s : Start w) (i : ℕ) → i < w .state .count → senderAt (w .state) i ≡ newSender (given (s .given .senders) i)
+unfolding setupState setupAnswer newSenders
+start-sender w s i less = by (setupWithin (s .given)) refl
+  where
+    by : (b : Bool) → setupWithin (s .given) ≡ b → senderAt (w .state) i ≡ newSender (given (s .given .senders) i)
+    by true e =
+        let q = s .given in
+        let is : w .state ≡ setupState q = s .state ∙ rw e in
+        let here : i < q .count = subst (λ (x : Receiver). i < x .count) is less in
+        ap (λ (x : Receiver). senderAt x i) is
+        ∙ written-place (newSenders (q .senders)) (λ j. newSender (given (q .senders) j)) (λ j. refl) (q .count) i here (omega (arith, setup-count q e))
+    by false e =
+        let is : w .state ≡ emptyReceiver = s .state ∙ rw e in
+        absurd (omega (arith, less, ap (λ (x : Receiver). x .count) is))
 
 -- ---- what a call keeps
 

@@ -38,10 +38,8 @@ use Rattle.rules.specs.Message.{area, lengthWrong, headWithin, messageNu
 use Rattle.rules.specs.MessageLaws.{Passed, taken-facts, or-false}
 use Rattle.rules.specs.Part.{partOf, storedPart}
 use Rattle.rules.specs.Past.{World, Event, message, alive, clock, question, step, after, Start}
-use Rattle.rules.specs.PastLaws.{Sound, start-sound, past-sound, after-count}
+use Rattle.rules.specs.PastLaws.{Sound, start-sound, start-sender, past-sound, after-count}
 use Rattle.rules.specs.QuestionLaws.{first-holds}
-use Rattle.rules.specs.Setup.{setupWithin, newSenders, setupState, setupAnswer}
-use Rattle.rules.specs.SetupLaws.{setup-count}
 use Rattle.rules.specs.View.{Settings, settingsFrom, view, inOrder, isFrom, seen, numberOf, stepView}
 use Rattle.rules.specs.ViewLaws.{out-of-order, number-at, own-octets, fills-joining, Registered, registered-step, registered-view, registered-number, registered-place, registered-after}
 
@@ -134,27 +132,6 @@ module _ (w : World) (sound : Sound w) (p : List ℕ) (vd : Verdict) (gave : mes
       (λ (e : eqb (h .cut .tbn) 1 ≡ false). rw e part-stored)
       (true-or-false (eqb (h .cut .tbn) 1)))
 
--- "nothing is open" at setup.
-new-closed : (l : List Address) (k i : ℕ) → k ≤ 16 → i < k → getD (newSenders l k) i noSender .«open» ≡ false
-unfolding newSenders
-new-closed l k i few less =
-    ap (λ (s : Sender). s .«open») (written-place (newSenders l) (λ j. newSender (given l j)) (λ j. refl) k i less (omega arith))
-
-pub start-closed : (w : World) → Start w → (i : ℕ) → i < w .state .count → senderAt (w .state) i .«open» ≡ false
-unfolding setupState setupAnswer
-start-closed w s i less = closed (setupWithin (s .given)) refl
-  where
-    closed : (b : Bool) → setupWithin (s .given) ≡ b → senderAt (w .state) i .«open» ≡ false
-    closed true e =
-        let q = s .given in
-        let is : w .state ≡ setupState q = s .state ∙ rw e in
-        let few : q .count ≤ 16 = setup-count q e in
-        let here : i < q .count = subst (λ (x : Receiver). i < x .count) is less in
-        ap (λ (x : Receiver). senderAt x i .«open») is ∙ new-closed (q .senders) (q .count) i few here
-    closed false e =
-        let is : w .state ≡ emptyReceiver = s .state ∙ rw e in
-        absurd (omega (arith, less, ap (λ (x : Receiver). x .count) is))
-
 -- ---- the packets accepted since, by the answers and by the sender's record
 
 -- A packet in order is as long as it says.
@@ -241,7 +218,7 @@ start-inv w s i here =
     let room = start-sound w s .room in
     record {
       room = length-run (i * area) area (w .storage) (omega (arith, room, mul-le-mul-right {m = suc i} {n = w .state .count} area here, suc-mul i area));
-      good = λ o. absurd (never-both o (start-closed w s i here));
+      good = λ o. absurd (never-both o (ap (λ (x : Sender). x .«open») (start-sender w s i here)));
     }
 
 pub start-registered : (w : World) → Start w → (i : ℕ) → i < w .state .count → Registered (settingsFrom (w .state)) (addressAt (w .state .senders) i) i w

@@ -2,14 +2,14 @@
 use Prim.Native.Nat.{ℕ, suc, _+_, _*_, _≤_, _<_}
 use mathlib.Core.Path.{_≡_, refl, sym, ap, _∙_}
 use mathlib.Core.Logic.{_≢_, ⊎-elim}
-use mathlib.Core.Bool.{Bool, true, false, not, cond, _||_}
+use mathlib.Core.Bool.{Bool, true, false, not, cond}
 use mathlib.Core.List.{List, [], _∷_}
 use native.Mathlib.Nat.{mul-le-mul-right, suc-mul}
 use native.Mathlib.Omega.{arith}
-use lib.Dec.{eqb, ltb}
-use lib.ListN.{length, set}
+use lib.Dec.{eqb}
+use lib.ListN.{length}
 use lib.Seq.{getD-set-same, getD-set-other}
-use borrow.Author.Tests.{eqb-true, eq-eqb, ne-eqb, lt-leb, not-true}
+use borrow.Author.Tests.{eq-eqb, ne-eqb, lt-leb, not-true}
 use Rattle.octets.specs.Run.{run}
 use Rattle.octets.specs.RunLaws.{length-run, run-before, run-behind, run-laid-within}
 use Rattle.octets.specs.Split.{lt-or-le, eq-or-ne, true-or-false, never-both, cond-case, both, and-left, and-right}
@@ -23,10 +23,10 @@ use Rattle.cut.specs.PossibleLaws.{possible-facts, possible-within}
 use Rattle.state.specs.declared.Address.{Address}
 use Rattle.state.specs.declared.Receiver.{Receiver}
 use Rattle.state.specs.declared.Sender.{Sender}
-use Rattle.state.specs.Limits.{sameAddress, addressAt, valid, clockMost}
+use Rattle.state.specs.Limits.{sameAddress, addressAt, valid}
 use Rattle.state.specs.State.{noSender, senderAt, firstWhere}
 use Rattle.state.specs.Table.{source, found}
-use Rattle.state.specs.WithinLaws.{valid-length, valid-apart, same-both}
+use Rattle.state.specs.WithinLaws.{valid-length, valid-apart, same-both, set-place}
 use Rattle.rules.specs.declared.answers.Answer.{Answer}
 use Rattle.rules.specs.declared.answers.Noted.{Noted}
 use Rattle.rules.specs.declared.answers.Outcome.the-variants.{Refused, Stored, Delivered}
@@ -34,9 +34,8 @@ use Rattle.rules.specs.declared.answers.Ticked.{Ticked}
 use Rattle.rules.specs.Admit.{verdictOf, senderRows, rejoins, mapAfter, fills, senderAfter, admitted}
 use Rattle.rules.specs.Changes.{message-only, alive-only}
 use Rattle.rules.specs.Alive.{aliveRows, heardBy, aliveAnswer}
-use Rattle.rules.specs.AliveLaws.{alive-facts}
 use Rattle.rules.specs.Clock.{clockRows, aged, ticked, notTicked, clockAnswer}
-use Rattle.rules.specs.ClockLaws.{aged-done, clock-back, clock-on}
+use Rattle.rules.specs.ClockLaws.{clock-at}
 use Rattle.rules.specs.First.{first}
 use Rattle.rules.specs.Message.{area, lengthWrong, headWithin, messageRows, messageNumber, storageAfter, withSender, taken, refused, messageAnswer, messageStorage}
 use Rattle.rules.specs.MessageLaws.{Passed, taken-facts}
@@ -98,6 +97,33 @@ module _ (w : Receiver) (ok : valid w ≡ true) (i : ℕ) (here : i < w .count) 
       let g : Sender → Bool = λ s. sameAddress (s .address) (source h) in
       let less : firstWhere g (w .senders) (w .count) < w .count = rw f here in
       never-both (rw f at (first-holds g (w .senders) (w .count) less)) e
+
+-- ---- what the calls with a packet keep of a sender's record
+
+module _ {A : Type 0} (f : Sender → A) (w : World) (sound : Sound w) (i : ℕ) (here : i < w .state .count) where
+  -- What a record written at a place leaves as it was,
+  pub set-kept : (k : ℕ) (x : Sender) → (i ≡ k → f x ≡ f (senderAt (w .state) i)) → f (senderAt (withSender (w .state) k x) i) ≡ f (senderAt (w .state) i)
+  unfolding withSender
+  set-kept k x e =
+      set-place (λ y. f y ≡ f (senderAt (w .state) i)) (w .state .senders) k i x (omega (arith, valid-length (w .state) (sound .is-valid))) e refl
+
+  -- what a message packet does,
+  pub message-kept : ((n1 now : ℕ) (s : Sender) (h : Head) → f (admitted n1 now s h .sender) ≡ f s) → (packet : List ℕ)
+      → f (senderAt (messageAnswer (w .state) (length (w .storage)) packet .state) i) ≡ f (senderAt (w .state) i)
+  unfolding messageAnswer taken refused
+  message-kept same packet =
+      cond-case (λ (x : Answer). f (senderAt (x .state) i) ≡ f (senderAt (w .state) i)) (eqb (messageNumber (w .state) (length (w .storage)) packet) 0) _ _
+      (λ _. set-kept (found (w .state) (headOf packet)) _ (λ e. rw (← e) (same (w .state .n1) (w .state .clock) (senderAt (w .state) i) (headOf packet))))
+      (λ _. refl)
+
+  -- and what a signal does.
+  alive-kept : ((now : ℕ) (s : Sender) (b : Body) → f (heardBy now s b) ≡ f s) → (packet : List ℕ)
+      → f (senderAt (aliveAnswer (w .state) packet .state) i) ≡ f (senderAt (w .state) i)
+  unfolding aliveAnswer
+  alive-kept same packet =
+      cond-case (λ (x : Noted). f (senderAt (x .state) i) ≡ f (senderAt (w .state) i)) (eqb (first (aliveRows (w .state) packet)) 0) _ _
+      (λ _. set-kept (found (w .state) (headOf packet)) _ (λ e. rw (← e) (same (w .state .clock) (senderAt (w .state) i) (bodyOf packet))))
+      (λ _. refl)
 
 -- ---- what a packet of the sender's own does
 
@@ -250,35 +276,17 @@ module _ (w : World) (sound : Sound w) (i : ℕ) (here : i < w .state .count) wh
 
   pub view-clock : (now : ℕ) → view (step w (clock now)) i ≡ tickView g v now
   unfolding view step tickView
-  view-clock now = ⊎-elim
-      (λ (e : ltb now (w .state .clock) || ltb clockMost now ≡ true). rw (e, ← clock-back (w .state) now (sound .is-valid) e) (unfold notTicked in refl))
-      (λ (e : ltb now (w .state .clock) || ltb clockMost now ≡ false).
-      rw (e, ← clock-on (w .state) now (sound .is-valid) e)
-      (unfold ticked in rw (
-        aged-done (w .state .t) now (w .state .senders) (w .state .count) i (valid-length (w .state) (sound .is-valid)) here,
-        joining-aged (w .state .t) now (senderAt (w .state) i),
-      )))
-      (true-or-false (ltb now (w .state .clock) || ltb clockMost now))
+  view-clock now =
+      clock-at (w .state) now (sound .is-valid) i here (λ t x. record { sender = joining x; now = t; octets = v .octets } ≡ tickView g v now)
+      (λ e. rw e) (λ e. rw (e, joining-aged (w .state .t) now (senderAt (w .state) i)))
 
   joining-heard : (now : ℕ) (x : Sender) (b : Body) → joining (heardBy now x b) ≡ joining x
   unfolding heardBy
   joining-heard now x b = cond-case (λ (y : Sender). joining y ≡ joining x) (eqb (b .mode) 1) _ _ (λ _. refl) (λ _. refl)
 
-  noted-view : (packet : List ℕ) → joining (senderAt (aliveAnswer (w .state) packet .state) i) ≡ joining (senderAt (w .state) i)
-  unfolding aliveAnswer
-  noted-view packet =
-      let k = found (w .state) (headOf packet) in
-      cond-case (λ (x : Noted). joining (senderAt (x .state) i) ≡ joining (senderAt (w .state) i)) (eqb (first (aliveRows (w .state) packet)) 0) _ _
-      (λ _. unfold withSender in ⊎-elim
-      (λ (e : i ≡ k). rw (← e, getD-set-same (w .state .senders) i (heardBy (w .state .clock) (senderAt (w .state) i) (bodyOf packet)) noSender (omega (arith, valid-length (w .state) (sound .is-valid))))
-      (joining-heard (w .state .clock) (senderAt (w .state) i) (bodyOf packet)))
-      (λ (e : i ≢ k). rw (getD-set-other (w .state .senders) k i (heardBy (w .state .clock) (senderAt (w .state) k) (bodyOf packet)) noSender e))
-      (eq-or-ne i k))
-      (λ _. refl)
-
   pub view-alive : (packet : List ℕ) → view (step w (alive packet)) i ≡ v
   unfolding view step
-  view-alive packet = rw (noted-view packet, alive-only (w .state) packet .same-clock)
+  view-alive packet = rw (alive-kept joining w sound i here joining-heard packet, alive-only (w .state) packet .same-clock)
 
   -- ---- each call
 
@@ -308,12 +316,6 @@ same-settings w (clock now) =
     (λ _. unfold ticked in refl) (λ _. unfold notTicked in refl)
 same-settings w question = refl
 
-set-address : (l : List Sender) (k i : ℕ) (x : Sender) → k < length l → x .address ≡ addressAt l k → addressAt (set l k x) i ≡ addressAt l i
-set-address l k i x less e = ⊎-elim
-    (λ (q : i ≡ k). rw q (ap (λ (s : Sender). s .address) (getD-set-same l k x noSender less) ∙ e))
-    (λ (q : i ≢ k). ap (λ (s : Sender). s .address) (getD-set-other l k i x noSender q))
-    (eq-or-ne i k)
-
 address-after : (n1 now : ℕ) (s : Sender) (h : Head) → admitted n1 now s h .sender .address ≡ s .address
 unfolding admitted senderAfter
 address-after n1 now s h = cond-case (λ (x : Sender). x .address ≡ s .address) (fills s h) _ _ (λ _. refl) (λ _. refl)
@@ -327,42 +329,13 @@ unfolding aged
 address-aged t now s = refl
 
 module _ (w : World) (sound : Sound w) (i : ℕ) (here : i < w .state .count) where
-  message-address : (packet : List ℕ) → addressAt (messageAnswer (w .state) (length (w .storage)) packet .state .senders) i ≡ addressAt (w .state .senders) i
-  unfolding messageAnswer taken refused withSender
-  message-address packet =
-      let k = found (w .state) (headOf packet) in
-      let number = messageNumber (w .state) (length (w .storage)) packet in
-      cond-case (λ (x : Answer). addressAt (x .state .senders) i ≡ addressAt (w .state .senders) i) (eqb number 0) _ _
-      (λ e. set-address (w .state .senders) k i _
-      (omega (arith, valid-length (w .state) (sound .is-valid), taken-facts (w .state) (length (w .storage)) packet (eqb-true number 0 e) .0 .registered))
-      (address-after (w .state .n1) (w .state .clock) (senderAt (w .state) k) (headOf packet)))
-      (λ _. refl)
-
-  alive-address : (packet : List ℕ) → addressAt (aliveAnswer (w .state) packet .state .senders) i ≡ addressAt (w .state .senders) i
-  unfolding aliveAnswer withSender
-  alive-address packet =
-      let k = found (w .state) (headOf packet) in
-      let number = first (aliveRows (w .state) packet) in
-      cond-case (λ (x : Noted). addressAt (x .state .senders) i ≡ addressAt (w .state .senders) i) (eqb number 0) _ _
-      (λ e. set-address (w .state .senders) k i _
-      (omega (arith, valid-length (w .state) (sound .is-valid), alive-facts (w .state) packet (eqb-true number 0 e) .1))
-      (address-heard (w .state .clock) (senderAt (w .state) k) (bodyOf packet)))
-      (λ _. refl)
-
-  clock-address : (now : ℕ) → addressAt (clockAnswer (w .state) now .state .senders) i ≡ addressAt (w .state .senders) i
-  unfolding clockAnswer
-  clock-address now =
-      cond-case (λ (x : Ticked). addressAt (x .state .senders) i ≡ addressAt (w .state .senders) i) (eqb (first (clockRows (w .state) now)) 0) (ticked (w .state) now) (notTicked (w .state) (first (clockRows (w .state) now)))
-      (λ _. unfold ticked in
-      (ap (λ (s : Sender). s .address) (aged-done (w .state .t) now (w .state .senders) (w .state .count) i (valid-length (w .state) (sound .is-valid)) here)
-      ∙ address-aged (w .state .t) now (senderAt (w .state) i)))
-      (λ _. unfold notTicked in refl)
-
-  same-address : (e : Event) → addressAt (step w e .state .senders) i ≡ addressAt (w .state .senders) i
+  pub same-address : (e : Event) → addressAt (step w e .state .senders) i ≡ addressAt (w .state .senders) i
   unfolding step
-  same-address (message packet) = message-address packet
-  same-address (alive packet) = alive-address packet
-  same-address (clock now) = clock-address now
+  same-address (message packet) = message-kept (λ s. s .address) w sound i here address-after packet
+  same-address (alive packet) = alive-kept (λ s. s .address) w sound i here address-heard packet
+  same-address (clock now) =
+      clock-at (w .state) now (sound .is-valid) i here (λ t s. s .address ≡ addressAt (w .state .senders) i)
+      (λ _. refl) (λ _. address-aged (w .state .t) now (senderAt (w .state) i))
   same-address question = refl
 
 -- ---- the answer

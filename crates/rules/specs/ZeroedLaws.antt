@@ -119,7 +119,7 @@ module _ (w : Receiver) (z : Zeroed w) where
       let k = first (aliveRows w packet) in
       cond-case (λ (x : Noted). Zeroed (x .state)) (eqb k 0) _ _
       (λ e. zeroed-changed (λ s. heardBy (w .clock) s b) (changes-heard (w .clock) b) (found w (headOf packet))
-      (alive-facts w packet (eqb-true k 0 e) .1))
+      (alive-facts w packet (eqb-true k 0 e) .registered))
       (λ e. z)
 
   zero-aged : (t now k : ℕ) → ZeroTable (agedSenders t now (w .senders) k)
