@@ -1,5 +1,5 @@
 -- Laws of pieces: there are at most 64, they lie side by side, and in order they are the message. Assumes nothing.
-use mathlib.Core.Path.{_≡_, sym, ap, _∙_}
+use mathlib.Core.Path.{_≡_, refl, sym, ap, _∙_}
 use mathlib.Core.Logic.{_⊎_, inl, inr, ⊎-elim}
 use mathlib.Core.List.{List, _++_}
 use Prim.Native.Nat.{ℕ, zero, suc, _+_, _-_, _*_, _/_, _≤_, _<_, min}
@@ -155,3 +155,9 @@ module _ (m : List ℕ) (u : ℕ) (pos : 1 ≤ u) where
   pieces-join =
       let e : min n (pieces n u * u) ≡ n = omega (arith, reach-all) in
       front (pieces n u) (omega arith) ∙ ap (λ (k : ℕ). take k m) e ∙ take-all n m (omega arith)
+
+-- Pieces that are the same join to the same.
+pub joined-same : (t : ℕ) (f g : ℕ → List ℕ) → ((c : ℕ) → 1 ≤ c → c ≤ t → f c ≡ g c) → joined t f ≡ joined t g
+unfolding joined
+joined-same zero f g same = refl
+joined-same (suc t) f g same = rw (joined-same t f g (λ c low top. same c low (omega arith)), same (suc t) (omega arith) (omega arith))

@@ -1,5 +1,5 @@
 -- Laws of the clock call. Assumes nothing.
-use mathlib.Core.Path.{_≡_, refl, ap, _∙_}
+use mathlib.Core.Path.{_≡_, refl, sym, ap, _∙_}
 use mathlib.Core.Logic.{_≢_, ⊎-elim}
 use mathlib.Core.Bool.{Bool, true, false, not, cond, _||_}
 use mathlib.Core.List.{List, [], _∷_}
@@ -15,6 +15,7 @@ use Rattle.octets.specs.Split.{true-or-false, cond-case, eq-or-ne}
 use Rattle.state.specs.declared.Sender.{Sender}
 use Rattle.state.specs.declared.Receiver.{Receiver}
 use Rattle.rules.specs.declared.answers.Call.the-variants.{Done}
+use Rattle.rules.specs.declared.answers.Ticked.{Ticked}
 use Rattle.rules.specs.Clock.{clockRows, drops, dies, aged, agedSenders, mapWhere, ticked, notTicked, clockAnswer}
 use Rattle.rules.specs.First.{row, first}
 use Rattle.rules.specs.FirstLaws.{first-here, first-later}
@@ -132,3 +133,14 @@ map-bit f l (suc k) i less =
     (λ (e : i ≢ k). cond-case (λ (x : ℕ). bit i (m + x) ≡ cond (f (getD l i noSender)) 1 0) (f (getD l k noSender)) (2 ^ k) 0
     (λ y. bit-keep i k m clear e ∙ map-bit f l k i (omega arith)) (λ n. rw (add-zero m) (map-bit f l k i (omega arith))))
     (eq-or-ne i k)
+
+-- A sender whose bit in the dropped map is 0 had nothing dropped.
+pub not-reported : (w : Receiver) (now : ℕ) → valid w ≡ true → ltb now (w .clock) || ltb clockMost now ≡ false → (i : ℕ) → i < w .count
+    → bit i (clockAnswer w now .dropped) ≡ 0 → drops (w .t) now (senderAt w i) ≡ false
+unfolding ticked
+not-reported w now ok on i here e = none (drops (w .t) now (senderAt w i))
+    (sym (map-bit (drops (w .t) now) (w .senders) (w .count) i here) ∙ ap (λ (x : Ticked). bit i (x .dropped)) (clock-on w now ok on) ∙ e)
+  where
+    none : (b : Bool) → cond {A = ℕ} b 1 0 ≡ 0 → b ≡ false
+    none true z = absurd (omega (arith, z))
+    none false z = refl

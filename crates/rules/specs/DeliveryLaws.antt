@@ -13,7 +13,7 @@ use Rattle.ring.specs.Check.{isRepeat}
 use Rattle.header.specs.declared.Head.{Head}
 use Rattle.header.specs.Head.{headOf}
 use Rattle.cut.specs.Pieces.{pieces, piece, joined}
-use Rattle.cut.specs.PiecesLaws.{pieces-join}
+use Rattle.cut.specs.PiecesLaws.{pieces-join, joined-same}
 use Rattle.state.specs.declared.Address.{Address}
 use Rattle.state.specs.declared.Last.{Last}
 use Rattle.state.specs.declared.Receiver.{Receiver}
@@ -25,18 +25,187 @@ use Rattle.state.specs.Table.{source, found}
 use Rattle.rules.specs.declared.answers.Answer.{Answer}
 use Rattle.rules.specs.declared.answers.Outcome.{Outcome}
 use Rattle.rules.specs.declared.answers.Outcome.the-variants.{Refused, Stored, Delivered}
-use Rattle.rules.specs.Accepted.{answerTo, isAccepted}
+use Rattle.rules.specs.Accepted.{answerTo, partTo, isAccepted, acceptedBy, acceptedSince}
 use Rattle.rules.specs.AcceptedLaws.{accepted-is}
-use Rattle.rules.specs.Admit.{fills, verdictOf, admitted}
+use Rattle.rules.specs.Admit.{rejoins}
 use Rattle.rules.specs.Clock.{drops, aged, ticked, notTicked, clockAnswer}
-use Rattle.rules.specs.ClockLaws.{clock-back, clock-on, map-bit}
-use Rattle.rules.specs.Delivery.{Sent, count, Numbered, PieceOf, Came, isOpen, verdictFor, KeptBy}
+use Rattle.rules.specs.ClockLaws.{not-reported}
+use Rattle.rules.specs.Delivery.{Sent, count, Numbered, PieceOf, Brings, Came, isOpen, verdictFor, KeptBy, Allowed, Course, OnlyPieces, ElseRefused, May, Arrives}
 use Rattle.rules.specs.Join.{Kin, kinOf, kinIn, numberIn, Brought, Joined}
 use Rattle.rules.specs.Message.{messageNumber, messageAnswer, taken, refused}
 use Rattle.rules.specs.Past.{World, Event, message, alive, clock, question, step, after, Start}
 use Rattle.rules.specs.PastLaws.{Sound}
-use Rattle.rules.specs.PhaseLaws.{Unfinished, Finished, Phase}
-use Rattle.rules.specs.PieceLaws.{Cuttable, kinFor, mapOf, larger, piece-kin, piece-number, piece-octets}
-use Rattle.rules.specs.View.{Settings, settingsFrom, View, joining, view, inOrder, isFrom, seen, numberOf, nextView, tickView, stepView}
-use Rattle.rules.specs.ViewLaws.{found-own, fills-joining, Registered, registered-number}
+use Rattle.rules.specs.PhaseLaws.{Phase, phase-same, phase-start, phase-next, phase-last, phase-more, phase-held, phase-once, phase-clock}
+use Rattle.rules.specs.PieceLaws.{Cuttable, least, larger, piece-kin, piece-number, piece-octets}
+use Rattle.rules.specs.JoinLaws.{Inv}
+use Rattle.rules.specs.SafeLaws.{IfTaken, accepted-step, accepted-all, inv-step, inv-after, joined-part, start-inv, start-registered}
+use Rattle.rules.specs.View.{Settings, settingsFrom, View, joining, view, inOrder, isFrom, seen, numberOf, outcomeView, nextView, tickView, stepView}
+use Rattle.rules.specs.ViewLaws.{Registered, registered-step, registered-view, registered-number, registered-place, registered-outcome}
 
+-- ---- one call
+
+module _ (g : Settings) (m : Sent) (k : Cuttable m) (admits : eqb (m .mode) 1 && not (g .test) ≡ false) (some : m .version ≢ 0) (one : 1 ≤ g .n1) (i : ℕ)
+    (last : Last) (new : isRepeat (verdictFor (g .n1) m last) ≡ false) where
+  -- A packet of the message's version and number that was accepted is one of its pieces.
+  abbrev Own : List ℕ → Type 0
+  Own q = headOf q .given .version .0 ≡ m .version → headOf q .given .number .0 ≡ m .number → (c : ℕ) × PieceOf m c q
+
+  -- The message on its way: which pieces came, and what was accepted for it.
+  record OnItsWay (C : ℕ → Type 0) (w : World) : Type 0 where
+    registered : Registered g (m .address) i w
+    packets : List (List ℕ)
+    inv : Inv packets (view w i)
+    own : (q : List ℕ) → List·Memᴰ q packets → Own q
+    phase : Phase m last C (view w i .sender)
+
+  module _ (C : ℕ → Type 0) (w : World) (o : OnItsWay C w) where
+    abbrev v : View
+    v = view w i
+
+    on-step : (D : ℕ → Type 0) (e : Event) → IfTaken (m .address) Own w e → Phase m last D (stepView g v (seen (m .address) e) .sender) → OnItsWay D (step w e)
+    on-step D e f phase = record {
+      registered = registered-step g (m .address) i w (o .registered) e;
+      packets = acceptedBy (m .address) (o .packets) w e;
+      inv = inv-step g (m .address) i w (o .registered) (o .packets) (o .inv) e;
+      own = accepted-step g (m .address) i Own w (o .registered) (o .packets) (o .own) e f;
+      phase = subst (λ (x : View). Phase m last D (x .sender)) (sym (registered-view g (m .address) i w (o .registered) e)) phase;
+    }
+
+    -- ---- a packet of the sender's own
+
+    same-pieces : (D : ℕ → Type 0) → ((d : ℕ) → D d → ⊥) → Phase m last C (v .sender) → Phase m last (λ d. C d ⊎ D d) (v .sender)
+    same-pieces D none = phase-same m last C (λ d. C d ⊎ D d) (v .sender) (λ d x. inl x) (λ d x. ⊎-elim (λ y. y) (λ (y : D d). absurd (none d y)) x)
+
+    own-piece : (p : List ℕ) (c : ℕ) (is : PieceOf m c p) → Phase m last (λ d. C d ⊎ PieceOf m d p) (nextView g v p .sender)
+    own-piece p c is =
+        phase-same m last (λ d. C d ⊎ (d ≡ c)) (λ d. C d ⊎ PieceOf m d p) (nextView g v p .sender)
+        (λ d x. ⊎-elim inl (λ (e : d ≡ c). inr (subst (λ (y : ℕ). PieceOf m y p) (sym e) is)) x)
+        (λ d x. ⊎-elim inl (λ (y : PieceOf m d p). inr (sym (piece-number m k d p y) ∙ piece-number m k c p is)) x)
+        (phase-next g m k admits some last new v C c p is one (o .phase))
+
+    still : (p : List ℕ) → isFrom (m .address) p ≡ true → isAccepted (answerTo w p) ≡ false → nextView g v p ≡ v
+    unfolding nextView
+    still p mine refused =
+        let number = registered-number g (m .address) i w (o .registered) p mine in
+        rw (subst (λ (x : ℕ). eqb x 0 ≡ false) number (sym (accepted-is (w .state) (length (w .storage)) p) ∙ refused))
+
+    own-packet : (p : List ℕ) → isFrom (m .address) p ≡ true → ElseRefused m w p → OnItsWay (λ d. C d ⊎ PieceOf m d p) (step w (message p))
+    unfolding seen stepView
+    own-packet p mine (inl is) = on-step (λ d. C d ⊎ PieceOf m d p) (message p) (λ _ _ _ _. is) (rw mine (own-piece p (is .0) (is .1)))
+    own-packet p mine (inr not) = on-step (λ d. C d ⊎ PieceOf m d p) (message p) (λ _ yes. absurd (never-both yes (not .1)))
+        (rw (mine, still p mine (not .1)) (same-pieces (λ d. PieceOf m d p) (not .0) (o .phase)))
+
+    -- ---- any call that may come
+
+    other-packet : (p : List ℕ) → isFrom (m .address) p ≡ false → OnItsWay (λ d. C d ⊎ PieceOf m d p) (step w (message p))
+    unfolding seen stepView
+    other-packet p e = on-step (λ d. C d ⊎ PieceOf m d p) (message p) (λ mine. absurd (never-both mine e))
+        (rw e (same-pieces (λ d. PieceOf m d p) (λ d is. never-both (is .from) e) (o .phase)))
+
+    kept : (now : ℕ) → KeptBy m i (w .state) now → ltb now (w .state .clock) || ltb clockMost now ≡ false → isOpen m (v .sender) ≡ true → drops (g .t) now (v .sender) ≡ false
+    unfolding view isOpen
+    kept now keeps on its =
+        let r = o .registered in
+        subst (λ (x : Settings). drops (x .t) now (senderAt (w .state) i) ≡ false) (r .settings)
+        (not-reported (w .state) now (r .sound .is-valid) on i (r .here) (keeps its))
+
+    clock-call : (now : ℕ) → KeptBy m i (w .state) now → Phase m last C (tickView g v now .sender)
+    unfolding tickView
+    clock-call now keeps = ⊎-elim
+        (λ (e : ltb now (v .now) || ltb clockMost now ≡ true). rw e (o .phase))
+        (λ (e : ltb now (v .now) || ltb clockMost now ≡ false).
+        rw e (phase-clock m last C (g .t) now (v .sender) (unfold view in refl) (kept now keeps (unfold view in e)) (o .phase)))
+        (true-or-false (ltb now (v .now) || ltb clockMost now))
+
+    way-step : (e : Event) → Allowed (ElseRefused m) m i w e → OnItsWay (λ d. C d ⊎ Brings m d e) (step w e)
+    unfolding seen stepView
+    way-step (message p) f = ⊎-elim
+        (λ (e : isFrom (m .address) p ≡ true). own-packet p e (f e))
+        (λ (e : isFrom (m .address) p ≡ false). other-packet p e)
+        (true-or-false (isFrom (m .address) p))
+    way-step (alive p) f = on-step (λ d. C d ⊎ ⊥) (alive p) tt (same-pieces (λ d. ⊥) (λ d x. x) (o .phase))
+    way-step (clock now) f = on-step (λ d. C d ⊎ ⊥) (clock now) tt
+        (phase-same m last C (λ d. C d ⊎ ⊥) (tickView g v now .sender) (λ d x. inl x) (λ d x. ⊎-elim (λ y. y) (λ (y : ⊥). absurd y) x) (clock-call now f))
+    way-step question f = on-step (λ d. C d ⊎ ⊥) question tt (same-pieces (λ d. ⊥) (λ d x. x) (o .phase))
+
+  -- ---- the calls since the past
+
+  way-same : (C D : ℕ → Type 0) (w : World) → ((d : ℕ) → C d → D d) → ((d : ℕ) → D d → C d) → OnItsWay C w → OnItsWay D w
+  way-same C D w to back o = record {
+    registered = o .registered;
+    packets = o .packets;
+    inv = o .inv;
+    own = o .own;
+    phase = phase-same m last C D (view w i .sender) to back (o .phase);
+  }
+
+  way-after : (C : ℕ → Type 0) (w : World) → OnItsWay C w → (es : List Event) → Course (ElseRefused m) m i w es → OnItsWay (λ d. C d ⊎ Came m d es) (after w es)
+  unfolding after
+  way-after C w o [] f = way-same C (λ d. C d ⊎ ⊥) w (λ d x. inl x) (λ d x. ⊎-elim (λ y. y) (λ (y : ⊥). absurd y) x) o
+  way-after C w o (e ∷ es) f =
+      way-same (λ d. (C d ⊎ Brings m d e) ⊎ Came m d es) (λ d. C d ⊎ (Brings m d e ⊎ Came m d es)) (after (step w e) es)
+      (λ d. to (C d) (Brings m d e) (Came m d es)) (λ d. back (C d) (Brings m d e) (Came m d es))
+      (way-after (λ d. C d ⊎ Brings m d e) (step w e) (way-step C w o e (f .0)) es (f .1))
+    where
+      to : (A B D : Type 0) → (A ⊎ B) ⊎ D → A ⊎ (B ⊎ D)
+      to A B D (inl (inl x)) = inl x
+      to A B D (inl (inr x)) = inr (inl x)
+      to A B D (inr x) = inr (inr x)
+
+      back : (A B D : Type 0) → A ⊎ (B ⊎ D) → (A ⊎ B) ⊎ D
+      back A B D (inl x) = inl (inl x)
+      back A B D (inr (inl x)) = inl (inr x)
+      back A B D (inr (inr x)) = inr x
+
+  -- ---- the arrival of a piece
+
+  -- Octet for octet.
+  same-octets : (packets : List (List ℕ)) (c : ℕ) (p part : List ℕ) → PieceOf m c p → ((q : List ℕ) → List·Memᴰ q packets → Own q) → Joined packets p part → part ≡ m .octets
+  same-octets packets c p part is own join =
+      sym (join .whole)
+      ∙ ap (λ (t : ℕ). joined t (piece part (kinOf p .u))) tbn-is
+      ∙ joined-same (count m) (piece part (kinOf p .u)) (piece (m .octets) (m .u)) each
+      ∙ pieces-join (m .octets) (m .u) (omega (arith, least m k))
+    where
+      tbn-is : kinOf p .tbn ≡ count m
+      tbn-is = ap (λ (x : Kin). x .tbn) (piece-kin m k c p is)
+
+      each : (d : ℕ) → 1 ≤ d → d ≤ count m → piece part (kinOf p .u) d ≡ piece (m .octets) (m .u) d
+      each d low top =
+          let b = join .parts d low (omega (arith, tbn-is)) in
+          let version = ap (λ (x : Kin). x .version) (b .alike) ∙ is .version in
+          let number = ap (λ (x : Kin). x .number) (b .alike) ∙ is .number in
+          let own-one = own (b .packet) (b .among) version number in
+          let d-is : own-one .0 ≡ d = sym (piece-number m k (own-one .0) (b .packet) (own-one .1)) ∙ b .number in
+          sym (b .same) ∙ piece-octets m k (own-one .0) (b .packet) (own-one .1) ∙ ap (piece (m .octets) (m .u)) d-is
+
+  arrives : (es : List Event) (w : World) → OnItsWay (λ d. Came m d es) w → (c : ℕ) (p : List ℕ) → PieceOf m c p → Arrives m (verdictFor (g .n1) m last) es w c p
+  arrives es w o c p is = record {
+    delivered = λ none rest. (gave none rest, octets none rest);
+    stored = λ none d numbered ne missing. outcome ∙ phase-more g m k admits some last new v₁ C c p is (o .phase) none d numbered ne missing;
+    held = λ came d numbered missing. outcome ∙ phase-held g m k admits some last new v₁ C c p is (o .phase) came d numbered missing;
+    once = λ all. outcome ∙ phase-once g m k admits some last new v₁ C c p is one (o .phase) all;
+  }
+    where
+      C : ℕ → Type 0
+      C d = Came m d es
+
+      v₁ : View
+      v₁ = view w i
+
+      outcome : answerTo w p .outcome ≡ outcomeView g (view w i) p
+      outcome = registered-outcome g (m .address) i w (o .registered) p (is .from)
+
+      gave : (Came m c es → ⊥) → ((d : ℕ) → Numbered m d → d ≢ c → Came m d es) → answerTo w p .outcome ≡ Delivered (verdictFor (g .n1) m last)
+      gave none rest = outcome ∙ phase-last g m k admits some last new (view w i) (λ d. Came m d es) c p is (o .phase) none rest
+
+      octets : (Came m c es → ⊥) → ((d : ℕ) → Numbered m d → d ≢ c → Came m d es) → partTo w p ≡ m .octets
+      octets none rest = same-octets _ c p (partTo w p) is own-all
+          (joined-part g (m .address) i w (o .registered) (o .packets) (o .inv) p (is .from) (verdictFor (g .n1) m last) (gave none rest))
+        where
+          own-all : (q : List ℕ) → List·Memᴰ q (p ∷ cond (rejoins (view w i .sender) (headOf p)) (o .packets) []) → Own q
+          own-all q among = ⊎-elim
+              (λ (e : q ≡ p) _ _. (c , subst (PieceOf m c) (sym e) is))
+              (λ (rest : List·Memᴰ q (cond (rejoins (view w i .sender) (headOf p)) (o .packets) [])).
+              cond-case (λ (x : List (List ℕ)). List·Memᴰ q x → Own q) (rejoins (view w i .sender) (headOf p)) (o .packets) [] (λ _. o .own q) (λ _ nothing. absurd (List·Memᴰ·not-nil nothing)) rest)
+              (List·Memᴰ·cases-cons among)

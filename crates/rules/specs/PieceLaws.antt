@@ -57,7 +57,7 @@ module _ (m : Sent) (k : Cuttable m) where
   abbrev n : ℕ
   n = length (m .octets)
 
-  least : leastUnit ≤ m .u
+  pub least : leastUnit ≤ m .u
   least = leb-true leastUnit (m .u) (and-left (leb leastUnit (m .u)) (leb (m .u) mostUnit) (k .wide))
 
   within : (c : ℕ) → Numbered m c → Within n (m .u) c

@@ -3,7 +3,7 @@ use Prim.Native.Nat.{ℕ, suc, _+_, _-_, _*_, _≤_, _<_}
 use mathlib.Core.Path.{_≡_, refl, sym, ap, subst, _∙_}
 use mathlib.Core.Logic.{_≢_, ⊎-elim}
 use mathlib.Core.Bool.{Bool, true, false, not, cond, _&&_, _||_}
-use mathlib.Core.List.{List, [], _∷_, map}
+use mathlib.Core.List.{List, [], _∷_, List·Memᴰ, List·Memᴰ·head, List·Memᴰ·tail, List·Memᴰ·cases-cons, List·Memᴰ·not-nil}
 use native.Mathlib.Nat.{mul-le-mul-right, suc-mul}
 use native.Mathlib.Omega.{arith}
 use lib.Dec.{eqb, ltb}
@@ -176,24 +176,53 @@ module _ (g : Settings) (a : Address) (i : ℕ) (w : World) (r : Registered g a 
         turned true = refl
         turned false = refl
 
-  -- Any other packet.
+  -- Any other packet from its address is not in order, so it was not accepted.
+  from-accepted : sameAddress a (source (headOf p)) ≡ true → number ≡ 0 → isFrom a p ≡ true
+  unfolding isFrom
+  from-accepted t none = both (inOrder p) (sameAddress a (source (headOf p))) ordered t
+    where
+      ordered : inOrder p ≡ true
+      ordered = ⊎-elim
+          (λ o. o)
+          (λ (f : inOrder p ≡ false). absurd (out-of-order (w .state) (length (w .storage)) p (r .sound .is-valid) (r .sound .room) f none))
+          (true-or-false (inOrder p))
+
   other-accepted : isFrom a p ≡ false → acceptedWith a packets w p ≡ packets
-  unfolding acceptedWith isFrom
+  unfolding acceptedWith
   other-accepted e = rw accepted-zero (⊎-elim
-      (λ (t : sameAddress a (source (headOf p)) ≡ true). rw (t, ne-eqb number 0 (out-of-order (w .state) (length (w .storage)) p (r .sound .is-valid) (r .sound .room) (unordered t))))
+      (λ (t : sameAddress a (source (headOf p)) ≡ true). rw (t, ne-eqb number 0 (λ none. never-both (from-accepted t none) e)))
       (λ (f : sameAddress a (source (headOf p)) ≡ false). rw f)
       (true-or-false (sameAddress a (source (headOf p)))))
-    where
-      unordered : sameAddress a (source (headOf p)) ≡ true → inOrder p ≡ false
-      unordered t = ⊎-elim
-          (λ (o : inOrder p ≡ true). absurd (never-both (both (inOrder p) (sameAddress a (source (headOf p))) o t) e))
-          (λ f. f)
-          (true-or-false (inOrder p))
+
+  -- What holds of the packets accepted before and of this one, if it is accepted, holds of all.
+  accepted-each : (P : List ℕ → Type 0) → ((q : List ℕ) → List·Memᴰ q packets → P q) → (isFrom a p ≡ true → isAccepted (answerTo w p) ≡ true → P p)
+      → (q : List ℕ) → List·Memᴰ q (acceptedWith a packets w p) → P q
+  unfolding acceptedWith
+  accepted-each P old new =
+      let same = sameAddress a (source (headOf p)) in
+      let taken = isAccepted (answerTo w p) in
+      cond-case (λ (x : List (List ℕ)). (q : List ℕ) → List·Memᴰ q x → P q) (same && taken) _ _
+      (λ e q among.
+      let yes : taken ≡ true = and-right same taken e in
+      let mine : isFrom a p ≡ true = from-accepted (and-left same taken e) (eqb-true number 0 (sym accepted-zero ∙ yes)) in
+      ⊎-elim
+      (λ (z : q ≡ p). subst P (sym z) (new mine yes))
+      (λ (rest : List·Memᴰ q (cond (hasOpened p (answerTo w p)) [] packets)).
+      cond-case (λ (x : List (List ℕ)). List·Memᴰ q x → P q) (hasOpened p (answerTo w p)) [] packets (λ _ none. absurd (List·Memᴰ·not-nil none)) (λ _ there. old q there) rest)
+      (List·Memᴰ·cases-cons among))
+      (λ _. old)
 
 -- ---- every past
 
+-- If the call brings a packet from the address that is accepted, something holds of that packet.
+abbrev pub IfTaken : Address → (List ℕ → Type 0) → World → Event → Type 0
+IfTaken a P w (message p) = isFrom a p ≡ true → isAccepted (answerTo w p) ≡ true → P p
+IfTaken a P w (alive p) = Unit {0}
+IfTaken a P w (clock now) = Unit {0}
+IfTaken a P w question = Unit {0}
+
 module _ (g : Settings) (a : Address) (i : ℕ) where
-  inv-step : (w : World) → Registered g a i w → (packets : List (List ℕ)) → Inv packets (view w i) → (e : Event) → Inv (acceptedBy a packets w e) (view (step w e) i)
+  pub inv-step : (w : World) → Registered g a i w → (packets : List (List ℕ)) → Inv packets (view w i) → (e : Event) → Inv (acceptedBy a packets w e) (view (step w e) i)
   unfolding seen stepView
   inv-step w r packets inv (message p) = subst (Inv (acceptedWith a packets w p)) (sym (registered-view g a i w r (message p))) (⊎-elim
       (λ (e : isFrom a p ≡ true).
@@ -205,11 +234,50 @@ module _ (g : Settings) (a : Address) (i : ℕ) where
   inv-step w r packets inv (clock now) = subst (Inv packets) (sym (registered-view g a i w r (clock now))) (tick-inv packets g (view w i) now inv)
   inv-step w r packets inv question = subst (Inv packets) (sym (registered-view g a i w r question)) inv
 
-  inv-after : (w : World) → Registered g a i w → (packets : List (List ℕ)) → Inv packets (view w i) → (es : List Event)
+  pub inv-after : (w : World) → Registered g a i w → (packets : List (List ℕ)) → Inv packets (view w i) → (es : List Event)
       → Inv (acceptedSince a packets w es) (view (after w es) i)
   unfolding acceptedSince after
   inv-after w r packets inv [] = inv
   inv-after w r packets inv (e ∷ es) = inv-after (step w e) (registered-step g a i w r e) (acceptedBy a packets w e) (inv-step w r packets inv e) es
+
+  -- What holds of the packets that were accepted, after one more call,
+  pub accepted-step : (P : List ℕ → Type 0) (w : World) → Registered g a i w → (packets : List (List ℕ)) → ((q : List ℕ) → List·Memᴰ q packets → P q)
+      → (e : Event) → IfTaken a P w e → (q : List ℕ) → List·Memᴰ q (acceptedBy a packets w e) → P q
+  accepted-step P w r packets old (message p) f = accepted-each g a i w r packets p P old f
+  accepted-step P w r packets old (alive p) f = old
+  accepted-step P w r packets old (clock now) f = old
+  accepted-step P w r packets old question f = old
+
+  -- and after a past, if it holds of every packet from the address.
+  pub accepted-all : (P : List ℕ → Type 0) (w : World) → Registered g a i w → (packets : List (List ℕ)) → ((q : List ℕ) → List·Memᴰ q packets → P q)
+      → (es : List Event) → ((p : List ℕ) → List·Memᴰ (message p) es → isFrom a p ≡ true → P p) → (q : List ℕ) → List·Memᴰ q (acceptedSince a packets w es) → P q
+  unfolding acceptedSince
+  accepted-all P w r packets old [] came = old
+  accepted-all P w r packets old (e ∷ es) came =
+      accepted-all P (step w e) (registered-step g a i w r e) (acceptedBy a packets w e) (accepted-step P w r packets old e (here e came)) es
+      (λ p there. came p (List·Memᴰ·tail there))
+    where
+      here : (x : Event) → ((p : List ℕ) → List·Memᴰ (message p) (x ∷ es) → isFrom a p ≡ true → P p) → IfTaken a P w x
+      here (message p) f = λ mine yes. f p (List·Memᴰ·head refl) mine
+      here (alive p) f = tt
+      here (clock now) f = tt
+      here question f = tt
+
+  -- What is delivered is a join of the packets accepted since.
+  module _ (w : World) (r : Registered g a i w) (packets : List (List ℕ)) (inv : Inv packets (view w i)) (p : List ℕ) (mine : isFrom a p ≡ true) (vd : Verdict)
+      (gave : answerTo w p .outcome ≡ Delivered vd) where
+    pub no-number : numberOf g (view w i) p ≡ 0
+    no-number = sym (registered-number g a i w r p mine) ∙ none w (r .sound) p vd gave
+
+    pub joined-part : Joined (p ∷ cond (rejoins (view w i .sender) (headOf p)) packets []) p (partTo w p)
+    joined-part =
+        let s = senderAt (w .state) i in
+        let at = registered-place g a i w r p mine in
+        let fill : fills (view w i .sender) (headOf p) ≡ true
+        = unfold view in (fills-joining s (headOf p) ∙ subst (λ (x : ℕ). fills (senderAt (w .state) x) (headOf p) ≡ true) at (full w (r .sound) p vd gave)) in
+        let part : partTo w p ≡ partView (view w i) p = part-is w (r .sound) p vd gave ∙ ap (λ (x : ℕ). partView (view w x) p) at in
+        subst (Joined (p ∷ cond (rejoins (view w i .sender) (headOf p)) packets []) p) (sym part)
+        (delivered-joined packets g (view w i) p inv (admitted-facts (g .test) (g .n1) (view w i .sender) (headOf p) no-number) (passed w (r .sound) p vd gave .size) fill)
 
 -- Nothing is open at setup, so nothing was accepted for it.
 pub start-inv : (w : World) → Start w → (i : ℕ) → i < w .state .count → Inv [] (view w i)
@@ -266,19 +334,12 @@ module _ (w : World) (start : Start w) (es : List Event) (p : List ℕ) (vd : Ve
   mine₁ : isFrom a₁ p ≡ true
   mine₁ = subst (λ (x : Address). isFrom x p ≡ true) (registered₁ .address) (from-sender w₁ sound₁ p vd gave)
 
-  none₁ : numberOf g₁ (view w₁ i₁) p ≡ 0
-  none₁ = sym (registered-number g₁ a₁ i₁ w₁ registered₁ p mine₁) ∙ none w₁ sound₁ p vd gave
-
-  accepted₁ : acceptedWith a₁ packets₁ w₁ p ≡ p ∷ cond (rejoins (view w₁ i₁ .sender) (headOf p)) packets₁ []
-  accepted₁ = own-accepted g₁ a₁ i₁ w₁ registered₁ packets₁ p mine₁ ∙ rw none₁
-
-  join₁ : Joined (p ∷ cond (rejoins (view w₁ i₁ .sender) (headOf p)) packets₁ []) p (partView (view w₁ i₁) p)
-  join₁ =
-      let fill : fills (view w₁ i₁ .sender) (headOf p) ≡ true = unfold view in (fills-joining (senderAt (w₁ .state) i₁) (headOf p) ∙ full w₁ sound₁ p vd gave) in
-      delivered-joined packets₁ g₁ (view w₁ i₁) p inv₁ (admitted-facts (g₁ .test) (g₁ .n1) (view w₁ i₁ .sender) (headOf p) none₁) (passed w₁ sound₁ p vd gave .size) fill
-
   safe-join : Joined (acceptedWith a₁ packets₁ w₁ p) p (partTo w₁ p)
-  safe-join = rw (accepted₁, part-is w₁ sound₁ p vd gave) join₁
+  safe-join =
+      let none₁ = no-number g₁ a₁ i₁ w₁ registered₁ packets₁ inv₁ p mine₁ vd gave in
+      let accepted₁ : acceptedWith a₁ packets₁ w₁ p ≡ p ∷ cond (rejoins (view w₁ i₁ .sender) (headOf p)) packets₁ []
+      = own-accepted g₁ a₁ i₁ w₁ registered₁ packets₁ p mine₁ ∙ rw none₁ in
+      rw accepted₁ (joined-part g₁ a₁ i₁ w₁ registered₁ packets₁ inv₁ p mine₁ vd gave)
 
 -- "Whether or not those conditions hold, nothing is ever delivered but a join of pieces accepted since that message last opened, one for
 -- each piece number."
