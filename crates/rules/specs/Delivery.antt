@@ -114,9 +114,9 @@ Allowed own m i w (clock now) = KeptBy m i (w .state) now
 Allowed own m i w question = Unit {0}
 
 -- Calls that may come, in the order of time.
-abbrev pub Course : (World → List ℕ → Type 0) → Sent → ℕ → World → List Event → Type 0
-Course own m i w [] = Unit {0}
-Course own m i w (e ∷ es) = Allowed own m i w e × Course own m i (step w e) es
+abbrev pub Between : (World → List ℕ → Type 0) → Sent → ℕ → World → List Event → Type 0
+Between own m i w [] = Unit {0}
+Between own m i w (e ∷ es) = Allowed own m i w e × Between own m i (step w e) es
 
 -- "nothing else of that sender comes between"
 abbrev pub OnlyPieces : Sent → World → List ℕ → Type 0

@@ -1,5 +1,5 @@
 -- A message is delivered once, octet for octet, at the arrival of its last missing piece. Assumes nothing.
-use Prim.Native.Nat.{ℕ, zero, suc, _+_, _*_, _≤_, _<_}
+use Prim.Native.Nat.{ℕ, suc, _+_, _-_, _≤_, _<_}
 use mathlib.Core.Path.{_≡_, refl, sym, ap, subst, _∙_}
 use mathlib.Core.Logic.{_≢_, _⊎_, inl, inr, ⊎-elim}
 use mathlib.Core.Bool.{Bool, true, false, not, cond, _&&_, _||_}
@@ -7,7 +7,7 @@ use mathlib.Core.List.{List, [], _∷_, _++_, List·Memᴰ, List·Memᴰ·head, 
 use native.Mathlib.Omega.{arith}
 use lib.Dec.{eqb, leb, ltb}
 use lib.ListN.{length}
-use borrow.Author.Tests.{eqb-true, eq-eqb, ne-eqb}
+use borrow.Author.Tests.{eqb-true, leb-true}
 use Rattle.octets.specs.Split.{eq-or-ne, true-or-false, never-both, cond-case, and-left, and-right}
 use Rattle.ring.specs.Check.{isRepeat}
 use Rattle.header.specs.declared.Head.{Head}
@@ -18,9 +18,11 @@ use Rattle.state.specs.declared.Address.{Address}
 use Rattle.state.specs.declared.Last.{Last}
 use Rattle.state.specs.declared.Receiver.{Receiver}
 use Rattle.state.specs.declared.Sender.{Sender}
-use Rattle.state.specs.Limits.{sameAddress, clockMost}
+use Rattle.state.specs.Limits.{addressAt, valid, settingsOf, isN1, isDropTime, clockMost, sendersMost}
 use Rattle.state.specs.Map.{bit}
+use Rattle.state.specs.MapLaws.{piece-some}
 use Rattle.state.specs.State.{senderAt}
+use Rattle.state.specs.WithinLaws.{valid-settings, valid-sender, message-facts}
 use Rattle.state.specs.Table.{source, found}
 use Rattle.rules.specs.declared.answers.Answer.{Answer}
 use Rattle.rules.specs.declared.answers.Outcome.{Outcome}
@@ -30,17 +32,25 @@ use Rattle.rules.specs.AcceptedLaws.{accepted-is}
 use Rattle.rules.specs.Admit.{rejoins}
 use Rattle.rules.specs.Clock.{drops, aged, ticked, notTicked, clockAnswer}
 use Rattle.rules.specs.ClockLaws.{not-reported}
-use Rattle.rules.specs.Delivery.{Sent, count, Numbered, PieceOf, Brings, Came, isOpen, verdictFor, KeptBy, Allowed, Course, OnlyPieces, ElseRefused, May, Arrives}
+use Rattle.rules.specs.Delivery.{Sent, count, Numbered, PieceOf, Brings, Came, isOpen, verdictFor, KeptBy, Allowed, Between, OnlyPieces, ElseRefused, May, Arrives}
 use Rattle.rules.specs.Join.{Kin, kinOf, kinIn, numberIn, Brought, Joined}
 use Rattle.rules.specs.Message.{messageNumber, messageAnswer, taken, refused}
 use Rattle.rules.specs.Past.{World, Event, message, alive, clock, question, step, after, Start}
-use Rattle.rules.specs.PastLaws.{Sound}
+use Rattle.rules.specs.PastLaws.{Sound, start-sound, past-sound, after-count}
 use Rattle.rules.specs.PhaseLaws.{Phase, phase-same, phase-start, phase-next, phase-last, phase-more, phase-held, phase-once, phase-clock}
 use Rattle.rules.specs.PieceLaws.{Cuttable, least, larger, piece-kin, piece-number, piece-octets}
 use Rattle.rules.specs.JoinLaws.{Inv}
 use Rattle.rules.specs.SafeLaws.{IfTaken, accepted-step, accepted-all, inv-step, inv-after, joined-part, start-inv, start-registered}
 use Rattle.rules.specs.View.{Settings, settingsFrom, View, joining, view, inOrder, isFrom, seen, numberOf, outcomeView, nextView, tickView, stepView}
-use Rattle.rules.specs.ViewLaws.{Registered, registered-step, registered-view, registered-number, registered-place, registered-outcome}
+use Rattle.rules.specs.ViewLaws.{Registered, registered-step, registered-view, registered-number, registered-outcome, registered-after}
+
+open-facts : (m : Sent) (s : Sender) → isOpen m s ≡ true → (s .«open» ≡ true) × (s .message .version .0 ≡ m .version) × (s .message .number .0 ≡ m .number)
+unfolding isOpen
+open-facts m s e =
+    let version = eqb (s .message .version .0) (m .version) in
+    let number = eqb (s .message .number .0) (m .number) in
+    let front = and-left (s .«open» && version) number e in
+    (and-left (s .«open») version front, eqb-true _ _ (and-right (s .«open») version front), eqb-true _ _ (and-right (s .«open» && version) number e))
 
 -- ---- one call
 
@@ -139,7 +149,7 @@ module _ (g : Settings) (m : Sent) (k : Cuttable m) (admits : eqb (m .mode) 1 &&
     phase = phase-same m last C D (view w i .sender) to back (o .phase);
   }
 
-  way-after : (C : ℕ → Type 0) (w : World) → OnItsWay C w → (es : List Event) → Course (ElseRefused m) m i w es → OnItsWay (λ d. C d ⊎ Came m d es) (after w es)
+  way-after : (C : ℕ → Type 0) (w : World) → OnItsWay C w → (es : List Event) → Between (ElseRefused m) m i w es → OnItsWay (λ d. C d ⊎ Came m d es) (after w es)
   unfolding after
   way-after C w o [] f = way-same C (λ d. C d ⊎ ⊥) w (λ d x. inl x) (λ d x. ⊎-elim (λ y. y) (λ (y : ⊥). absurd y) x) o
   way-after C w o (e ∷ es) f =
@@ -209,3 +219,103 @@ module _ (g : Settings) (m : Sent) (k : Cuttable m) (admits : eqb (m .mode) 1 &&
               (λ (rest : List·Memᴰ q (cond (rejoins (view w i .sender) (headOf p)) (o .packets) [])).
               cond-case (λ (x : List (List ℕ)). List·Memᴰ q x → Own q) (rejoins (view w i .sender) (headOf p)) (o .packets) [] (λ _. o .own q) (λ _ nothing. absurd (List·Memᴰ·not-nil nothing)) rest)
               (List·Memᴰ·cases-cons among)
+
+-- ---- any past
+
+allowed-wider : (m : Sent) (i : ℕ) (w : World) (e : Event) → Allowed (OnlyPieces m) m i w e → Allowed (ElseRefused m) m i w e
+allowed-wider m i w (message packet) f = λ mine. inl (f mine)
+allowed-wider m i w (alive packet) f = f
+allowed-wider m i w (clock now) f = f
+allowed-wider m i w question f = f
+
+-- Where nothing else of the sender comes, nothing else of it is taken.
+between-wider : (m : Sent) (i : ℕ) (w : World) (es : List Event) → Between (OnlyPieces m) m i w es → Between (ElseRefused m) m i w es
+between-wider m i w [] f = f
+between-wider m i w (e ∷ es) f = (allowed-wider m i w e (f .0), between-wider m i (step w e) es (f .1))
+
+n1-some : (w : Receiver) → valid w ≡ true → 1 ≤ w .n1
+unfolding settingsOf
+n1-some w ok =
+    let a = leb (w .clock) clockMost && leb (w .count) sendersMost in
+    let n1 = isN1 (w .n1) in
+    let t = isDropTime (w .t) in
+    let settings = and-left (a && n1 && t) _ (valid-settings w ok) in
+    leb-true 1 (w .n1) (and-left (leb 1 (w .n1)) (leb (w .n1) 1024) (and-right a n1 (and-left (a && n1) t settings)))
+
+module _ (w₀ : World) (start : Start w₀) (past : List Event) (m : Sent) (i : ℕ) (may : May m i past (after w₀ past)) where
+  abbrev w₁ : World
+  w₁ = after w₀ past
+
+  abbrev g₁ : Settings
+  g₁ = settingsFrom (w₁ .state)
+
+  abbrev s₁ : Sender
+  s₁ = senderAt (w₁ .state) i
+
+  sound₁ : Sound w₁
+  sound₁ = past-sound w₀ start past
+
+  cuttable : Cuttable m
+  cuttable = record { most = may .length-within; wide = may .unit-within }
+
+  here₀ : i < w₀ .state .count
+  here₀ = omega (arith, may .here, after-count w₀ past)
+
+  stands₁ : Registered (settingsFrom (w₀ .state)) (addressAt (w₀ .state .senders) i) i w₁
+  stands₁ = registered-after (settingsFrom (w₀ .state)) (addressAt (w₀ .state .senders) i) i w₀ (start-registered w₀ start i here₀) past
+
+  registered₀ : Registered (settingsFrom (w₀ .state)) (m .address) i w₀
+  registered₀ = record { sound = start-sound w₀ start; here = here₀; settings = refl; address = sym (stands₁ .address) ∙ may .registered }
+
+  packets₁ : List (List ℕ)
+  packets₁ = acceptedSince (m .address) [] w₀ past
+
+  inv₁ : Inv packets₁ (view w₁ i)
+  unfolding packets₁
+  inv₁ = inv-after (settingsFrom (w₀ .state)) (m .address) i w₀ registered₀ [] (start-inv w₀ start i here₀) past
+
+  -- No packet of the past has the message's version and number.
+  unlike : (q : List ℕ) → List·Memᴰ q packets₁ → headOf q .given .version .0 ≡ m .version → headOf q .given .number .0 ≢ m .number
+  unfolding packets₁
+  unlike = accepted-all (settingsFrom (w₀ .state)) (m .address) i (λ q. headOf q .given .version .0 ≡ m .version → headOf q .given .number .0 ≢ m .number) w₀ registered₀ []
+      (λ q none. absurd (List·Memᴰ·not-nil none)) past (may .unheard)
+
+  -- So it is not open: an open message holds a piece that was brought.
+  not-open : isOpen m (view w₁ i .sender) ≡ false
+  not-open = ⊎-elim (λ (o : isOpen m (view w₁ i .sender) ≡ true). absurd (open-never o)) (λ o. o) (true-or-false (isOpen m (view w₁ i .sender)))
+    where
+      open-never : isOpen m (view w₁ i .sender) ≡ true → ⊥
+      open-never o =
+          let x = view w₁ i .sender in
+          let facts = open-facts m x o in
+          let fine = inv₁ .good (facts .0) in
+          let within = message-facts (w₁ .state .clock) (s₁ .message) (valid-sender (w₁ .state) (sound₁ .is-valid) i (may .here) .message (unfold view in facts .0)) in
+          let some = piece-some (x .message .tbn) (x .message .map) (fine .room) (unfold view in within .not-empty) in
+          let c-is : suc (some .0) - 1 ≡ some .0 = omega arith in
+          let b = fine .has (suc (some .0)) (omega arith) (omega (arith, some .1)) (subst (λ (j : ℕ). bit j (x .message .map) ≡ 1) (sym c-is) (some .2)) in
+          unlike (b .packet) (b .among) (ap (λ (y : Kin). y .version) (b .alike) ∙ facts .1) (ap (λ (y : Kin). y .number) (b .alike) ∙ facts .2)
+
+  on-its-way : OnItsWay g₁ m cuttable (may .admits) (may .version) (n1-some (w₁ .state) (sound₁ .is-valid)) i (s₁ .last) (may .no-repeat) (λ d. ⊥) w₁
+  on-its-way = record {
+    registered = record { sound = sound₁; here = may .here; settings = refl; address = may .registered };
+    packets = packets₁;
+    inv = inv₁;
+    own = λ q among version number. absurd (unlike q among version number);
+    phase = inl (unfold view in phase-start m cuttable (joining s₁) (may .none-larger) (unfold view in not-open));
+  }
+
+  -- The inner theorem: something else of that sender may come between, if it is refused.
+  pub arrives-among : (es : List Event) → Between (ElseRefused m) m i w₁ es → (c : ℕ) (packet : List ℕ) → PieceOf m c packet
+      → Arrives m (verdictFor (w₁ .state .n1) m (s₁ .last)) es (after w₁ es) c packet
+  arrives-among es f c packet is =
+      let one = n1-some (w₁ .state) (sound₁ .is-valid) in
+      let then = way-after g₁ m cuttable (may .admits) (may .version) one i (s₁ .last) (may .no-repeat) (λ d. ⊥) w₁ on-its-way es f in
+      arrives g₁ m cuttable (may .admits) (may .version) one i (s₁ .last) (may .no-repeat) es (after w₁ es)
+      (way-same g₁ m cuttable (may .admits) (may .version) one i (s₁ .last) (may .no-repeat) (λ d. ⊥ ⊎ Came m d es) (λ d. Came m d es) (after w₁ es)
+      (λ d x. ⊎-elim (λ (y : ⊥). absurd y) (λ y. y) x) (λ d x. inr x) then)
+      c packet is
+
+  -- "then it is delivered once, octet for octet, at the arrival of the last missing piece."
+  pub arrives-only : (es : List Event) → Between (OnlyPieces m) m i w₁ es → (c : ℕ) (packet : List ℕ) → PieceOf m c packet
+      → Arrives m (verdictFor (w₁ .state .n1) m (s₁ .last)) es (after w₁ es) c packet
+  arrives-only es f = arrives-among es (between-wider m i w₁ es f)

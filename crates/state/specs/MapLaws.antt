@@ -100,6 +100,14 @@ ones-some (suc n) m h some = ⊎-elim
     (λ (e : m % 2 ≢ 0). omega (arith, ones-step m))
     (eq-or-ne (m % 2) 0)
 
+pub piece-some : (n m : ℕ) → m < 2 ^ n → 0 < m → (k : ℕ) × (k < n) × (bit k m ≡ 1)
+unfolding bit
+piece-some zero m h some = absurd (omega arith)
+piece-some (suc n) m h some = ⊎-elim
+    (λ (e : m % 2 ≡ 0). let r = piece-some n (m / 2) (omega arith) (omega arith) in (suc (r .0), omega (arith, r .1), r .2))
+    (λ (e : m % 2 ≢ 0). (0, omega arith, omega arith))
+    (eq-or-ne (m % 2) 0)
+
 -- ---- the code's words
 
 pub code-bit : (k m : ℕ) → bitAnd (m / 2 ^ k) 1 ≡ bit k m
