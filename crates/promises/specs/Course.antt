@@ -1,0 +1,110 @@
+-- "A past is a setup, storage of its right length with any octets in it, and then calls, each given the state and storage that the one
+-- before left." Here a call is known by its public contract alone, as a relation between what it was given, what it answered and what it
+-- left: so a course is that of any program whose calls meet the contracts. That ours do is shown by the functions of src/.
+use Prim.Native.Nat.{ℕ, _*_}
+use mathlib.Core.Path.{_≡_}
+use mathlib.Core.List.{List, [], _∷_}
+use lib.ListN.{length}
+use Rattle.header.specs.declared.Given.{Given}
+use Rattle.cut.specs.declared.cutter.Cutting.{Cutting}
+use Rattle.cut.specs.Cutter.{cutterAnswer, cutterBuffer}
+use Rattle.state.specs.declared.Receiver.{Receiver}
+use Rattle.rules.specs.declared.answers.Answer.{Answer}
+use Rattle.rules.specs.declared.answers.Missing.{Missing}
+use Rattle.rules.specs.declared.answers.Noted.{Noted}
+use Rattle.rules.specs.declared.answers.Setup.{Setup}
+use Rattle.rules.specs.declared.answers.Started.{Started}
+use Rattle.rules.specs.declared.answers.Ticked.{Ticked}
+use Rattle.rules.specs.declared.answers.Where.{Where}
+use Rattle.rules.specs.Alive.{aliveAnswer}
+use Rattle.rules.specs.Clock.{clockAnswer}
+use Rattle.rules.specs.Message.{area, messageAnswer, messageStorage}
+use Rattle.rules.specs.Part.{partOf}
+use Rattle.rules.specs.Past.{World, Event, message, alive, clock, question, step}
+use Rattle.rules.specs.Question.{questionAnswer}
+use Rattle.rules.specs.Setup.{setupAnswer}
+
+abbrev pub world : Receiver → List ℕ → World
+world state storage = record { state = state; storage = storage }
+
+-- ---- each call, by its contract
+
+-- "a setup, storage of its right length with any octets in it"
+pub record SetupMeets (q : Setup) (r : Started) (w : World) : Type 0 where
+  pub answered : r ≡ setupAnswer q
+  pub handed-on : w .state ≡ r .state
+  pub room : length (w .storage) ≡ w .state .count * area
+
+-- Made at the world w, it answered r and left the world v.
+pub record MessageMeets (w : World) (packet : List ℕ) (r : Answer) (v : World) : Type 0 where
+  pub answered : r ≡ messageAnswer (w .state) (length (w .storage)) packet
+  pub stored : v .storage ≡ messageStorage (w .state) (w .storage) packet
+  pub handed-on : v .state ≡ r .state
+
+pub record PartMeets (place : Where) (packet storage part : List ℕ) : Type 0 where
+  pub handed-over : part ≡ partOf place packet storage
+
+-- To the other calls no storage is lent.
+pub record AliveMeets (w : World) (packet : List ℕ) (r : Noted) (v : World) : Type 0 where
+  pub answered : r ≡ aliveAnswer (w .state) packet
+  pub stays : v .storage ≡ w .storage
+  pub handed-on : v .state ≡ r .state
+
+pub record ClockMeets (w : World) (now : ℕ) (r : Ticked) (v : World) : Type 0 where
+  pub answered : r ≡ clockAnswer (w .state) now
+  pub stays : v .storage ≡ w .storage
+  pub handed-on : v .state ≡ r .state
+
+pub record QuestionMeets (w : World) (r : Missing) (v : World) : Type 0 where
+  pub answered : r ≡ questionAnswer (w .state)
+  pub stays : v ≡ w
+
+-- The cutter stands in no past: it makes packets.
+pub record CutterMeets (g : Given) (m : List ℕ) (u c : ℕ) (buffer : List ℕ) (r : Cutting) (left : List ℕ) : Type 0 where
+  pub answered : r ≡ cutterAnswer g m u c (length buffer)
+  pub written : left ≡ cutterBuffer g m u c buffer
+
+-- ---- a course
+
+-- What a call says; a message call, with the part that is then handed over.
+abbrev pub Said : Event → Type 0
+Said (message packet) = Answer × List ℕ
+Said (alive packet) = Noted
+Said (clock now) = Ticked
+Said question = Missing
+
+abbrev pub Meets : (w : World) (e : Event) → Said e → World → Type 0
+Meets w (message packet) r v = MessageMeets w packet (r .0) v × PartMeets (r .0 .place) packet (v .storage) (r .1)
+Meets w (alive packet) r v = AliveMeets w packet r v
+Meets w (clock now) r v = ClockMeets w now r v
+Meets w question r v = QuestionMeets w r v
+
+abbrev pub Answers : List Event → Type 0
+Answers [] = Unit {0}
+Answers (e ∷ es) = Said e × Answers es
+
+-- Calls from the world w on, in the order of time, "each given the state and storage that the one before left"; v is what the last one left.
+abbrev pub Course : (w : World) (es : List Event) → Answers es → World → Type 0
+Course w [] rs v = v ≡ w
+Course w (e ∷ es) rs v = (u : World) × Meets w e (rs .0) u × Course u es (rs .1) v
+
+-- Whatever was answered on the way.
+abbrev pub Leads : World → List Event → World → Type 0
+Leads w es v = (rs : Answers es) × Course w es rs v
+
+abbrev pub messagesOf : List ℕ → List ℕ → List Event
+messagesOf first second = message first ∷ message second ∷ []
+
+-- ---- what `rules` says of the same calls
+
+unfoldable pub said : (w : World) (e : Event) → Said e
+said w (message packet) =
+    let r = messageAnswer (w .state) (length (w .storage)) packet in
+    (r, partOf (r .place) packet (messageStorage (w .state) (w .storage) packet))
+said w (alive packet) = aliveAnswer (w .state) packet
+said w (clock now) = clockAnswer (w .state) now
+said w question = questionAnswer (w .state)
+
+unfoldable pub answers : (w : World) (es : List Event) → Answers es
+answers w [] = tt
+answers w (e ∷ es) = (said w e, answers (step w e) es)

@@ -1,0 +1,91 @@
+// Each public call once more, to tie its contract to the courses of specs/Course.antt: that it is a call of a course is shown from nothing
+// but the contract of the function that it calls. A weaker contract would be refused here. No program calls these functions.
+//
+// The first equations of each contract are those of the call itself. A call that is lent no storage leaves any storage as it is.
+ghost use mathlib.Core.Path.{_≡_};
+ghost use mathlib.Core.List.{List};
+ghost use Prim.Native.Nat.{ℕ, _*_};
+ghost use lib.ListN.{length};
+ghost use Rattle.cut.specs.Cutter.{cutterAnswer, cutterBuffer};
+ghost use Rattle.rules.specs.Alive.{aliveAnswer};
+ghost use Rattle.rules.specs.Clock.{clockAnswer};
+ghost use Rattle.rules.specs.Message.{area, messageAnswer, messageStorage};
+ghost use Rattle.rules.specs.Part.{partOf};
+ghost use Rattle.rules.specs.Past as past;
+ghost use Rattle.rules.specs.Past.{step, after};
+ghost use Rattle.rules.specs.Question.{questionAnswer};
+ghost use Rattle.rules.specs.Setup.{setupAnswer};
+ghost use Rattle.promises.specs.Course.{world, said, messagesOf, Leads, SetupMeets, MessageMeets, PartMeets, AliveMeets, ClockMeets, QuestionMeets, CutterMeets};
+use cut::cutter::Cutting;
+use header::Given;
+use rules::answers::Answer;
+use rules::answers::Missing;
+use rules::answers::Noted;
+use rules::answers::Setup;
+use rules::answers::Started;
+use rules::answers::Ticked;
+use rules::answers::Where;
+use state::Receiver;
+
+// The storage may hold any octets.
+pub fn setup(q: Setup) -> Started
+    ensures answer { λ r. ⌜ r ≡ setupAnswer q ⌝ }
+    ensures begins { λ r. ⌜ ((storage : List ℕ) → length storage ≡ r .state .count * area → SetupMeets q r (world (r .state) storage)) ⌝ }
+{
+    setup::setup(q)
+}
+
+pub fn message(state: Receiver, storage: &mut [u8], packet: &[u8]) -> Answer
+    ensures answer { λ r. ⌜ r ≡ messageAnswer state (length (now (storage .entry))) (now (packet .entry)) ⌝ }
+    ensures stored { λ _. ⌜ now (storage .exit) ≡ messageStorage state (now (storage .entry)) (now (packet .entry)) ⌝ }
+    ensures meets { λ r. ⌜ MessageMeets (world state (now (storage .entry))) (now (packet .entry)) r (world (r .state) (now (storage .exit))) ⌝ }
+{
+    receiver::message::message(state, storage, packet)
+}
+
+// Two calls: the second is given "the state and storage that the one before left".
+pub fn messages(state: Receiver, storage: &mut [u8], first: &[u8], second: &[u8]) -> Answer
+    ensures answer { λ r. ⌜ r ≡ said (step (world state (now (storage .entry))) (past.message (now (first .entry)))) (past.message (now (second .entry))) .0 ⌝ }
+    ensures stored { λ _. ⌜ now (storage .exit) ≡ after (world state (now (storage .entry))) (messagesOf (now (first .entry)) (now (second .entry))) .storage ⌝ }
+    ensures course { λ r. ⌜ Leads (world state (now (storage .entry))) (messagesOf (now (first .entry)) (now (second .entry))) (world (r .state) (now (storage .exit))) ⌝ }
+{
+    let a = message(state, storage, first);
+    let next = a.state;
+    message(next, storage, second)
+}
+
+pub fn part<'a>(place: Where, packet: &'a [u8], storage: &'a [u8]) -> &'a [u8]
+    ensures answer { λ r. ⌜ now r ≡ partOf place (now (packet .entry)) (now (storage .entry)) ⌝ }
+    ensures meets { λ r. ⌜ PartMeets place (now (packet .entry)) (now (storage .entry)) (now r) ⌝ }
+{
+    receiver::part::part(place, packet, storage)
+}
+
+pub fn alive(state: Receiver, packet: &[u8]) -> Noted
+    ensures answer { λ r. ⌜ r ≡ aliveAnswer state (now (packet .entry)) ⌝ }
+    ensures meets { λ r. ⌜ ((storage : List ℕ) → AliveMeets (world state storage) (now (packet .entry)) r (world (r .state) storage)) ⌝ }
+{
+    alive::alive(state, packet)
+}
+
+pub fn clock(state: Receiver, now: u64) -> Ticked
+    ensures answer { λ r. ⌜ r ≡ clockAnswer state now ⌝ }
+    ensures meets { λ r. ⌜ ((storage : List ℕ) → ClockMeets (world state storage) now r (world (r .state) storage)) ⌝ }
+{
+    clock::clock(state, now)
+}
+
+pub fn question(state: Receiver) -> Missing
+    ensures answer { λ r. ⌜ r ≡ questionAnswer state ⌝ }
+    ensures meets { λ r. ⌜ ((storage : List ℕ) → QuestionMeets (world state storage) r (world state storage)) ⌝ }
+{
+    question::question(state)
+}
+
+pub fn cutter(given: Given, message: &[u8], u: u16, piece: u8, buffer: &mut [u8]) -> Cutting
+    ensures answer { λ r. ⌜ r ≡ cutterAnswer given (now (message .entry)) u piece (length (now (buffer .entry))) ⌝ }
+    ensures written { λ _. ⌜ now (buffer .exit) ≡ cutterBuffer given (now (message .entry)) u piece (now (buffer .entry)) ⌝ }
+    ensures meets { λ r. ⌜ CutterMeets given (now (message .entry)) u piece (now (buffer .entry)) r (now (buffer .exit)) ⌝ }
+{
+    cut::cutter::cutter(given, message, u, piece, buffer)
+}
