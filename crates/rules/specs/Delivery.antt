@@ -23,8 +23,9 @@ use Rattle.state.specs.declared.Sender.{Sender}
 use Rattle.state.specs.Limits.{addressAt}
 use Rattle.state.specs.Map.{bit}
 use Rattle.state.specs.State.{senderAt}
+use Rattle.rules.specs.declared.answers.Outcome.{Outcome}
 use Rattle.rules.specs.declared.answers.Outcome.the-variants.{Refused, Stored, Delivered}
-use Rattle.rules.specs.Accepted.{answerTo, partTo, isAccepted}
+use Rattle.rules.specs.Accepted.{answerTo, isAccepted}
 use Rattle.rules.specs.Clock.{clockAnswer}
 use Rattle.rules.specs.Past.{World, Event, message, alive, clock, question, step}
 use Rattle.rules.specs.View.{isFrom}
@@ -89,8 +90,6 @@ pub record May (m : Sent) (i : ℕ) (past : List Event) (w : World) : Type 0 whe
   -- "cut by the rules": "n … (0 to 16,384) and u the piece length, 256 to 1,396"
   pub length-within : length (m .octets) ≤ mostOctets
   pub unit-within : isUnit (m .u) ≡ true
-  -- "If its version is not 0,"
-  pub version : m .version ≢ 0
   -- "no packet with this version and number came from this sender before,"
   pub unheard : (packet : List ℕ) → List·Memᴰ (message packet) past → isFrom (m .address) packet ≡ true
       → headOf packet .given .version .0 ≡ m .version → headOf packet .given .number .0 ≢ m .number
@@ -128,15 +127,14 @@ ElseRefused m w packet = ((c : ℕ) × PieceOf m c packet) ⊎ (((c : ℕ) → �
 
 -- ---- what is promised
 
--- "then it is delivered once, octet for octet, at the arrival of the last missing piece": what is answered in w to the PDU of piece c, after
--- the calls es since the past. The verdict is what the check gave after the past.
-pub record Arrives (m : Sent) (verdict : Verdict) (es : List Event) (w : World) (c : ℕ) (packet : List ℕ) : Type 0 where
+-- "then it is delivered once, octet for octet, at the arrival of the last missing piece": the outcome of the call with the PDU of piece c, and
+-- the part that is then handed over, after the calls es since the past. The verdict is what the check gave after the past.
+pub record Arrives (m : Sent) (verdict : Verdict) (es : List Event) (c : ℕ) (outcome : Outcome) (part : List ℕ) : Type 0 where
   -- It is the last missing piece.
-  pub delivered : ¬ (Came m c es) → ((d : ℕ) → Numbered m d → d ≢ c → Came m d es)
-      → (answerTo w packet .outcome ≡ Delivered verdict) × (partTo w packet ≡ m .octets)
+  pub delivered : ¬ (Came m c es) → ((d : ℕ) → Numbered m d → d ≢ c → Came m d es) → (outcome ≡ Delivered verdict) × (part ≡ m .octets)
   -- Another one is missing too.
-  pub stored : ¬ (Came m c es) → (d : ℕ) → Numbered m d → d ≢ c → ¬ (Came m d es) → answerTo w packet .outcome ≡ Stored
+  pub stored : ¬ (Came m c es) → (d : ℕ) → Numbered m d → d ≢ c → ¬ (Came m d es) → outcome ≡ Stored
   -- It came before, and some piece is missing.
-  pub held : Came m c es → (d : ℕ) → Numbered m d → ¬ (Came m d es) → answerTo w packet .outcome ≡ Refused 20
-  -- All came before, so the message was delivered.
-  pub once : ((d : ℕ) → Numbered m d → Came m d es) → answerTo w packet .outcome ≡ Refused 17
+  pub held : Came m c es → (d : ℕ) → Numbered m d → ¬ (Came m d es) → outcome ≡ Refused 20
+  -- All came before, so the message was delivered. "If its version is not 0" is asked for this alone.
+  pub once : m .version ≢ 0 → ((d : ℕ) → Numbered m d → Came m d es) → outcome ≡ Refused 17

@@ -54,7 +54,7 @@ open-facts m s e =
 
 -- ---- one call
 
-module _ (g : Settings) (m : Sent) (k : Cuttable m) (admits : eqb (m .mode) 1 && not (g .test) ≡ false) (some : m .version ≢ 0) (one : 1 ≤ g .n1) (i : ℕ)
+module _ (g : Settings) (m : Sent) (k : Cuttable m) (admits : eqb (m .mode) 1 && not (g .test) ≡ false) (one : 1 ≤ g .n1) (i : ℕ)
     (last : Last) (new : isRepeat (verdictFor (g .n1) m last) ≡ false) where
   -- A packet of the message's version and number that was accepted is one of its pieces.
   abbrev Own : List ℕ → Type 0
@@ -91,7 +91,7 @@ module _ (g : Settings) (m : Sent) (k : Cuttable m) (admits : eqb (m .mode) 1 &&
         phase-same m last (λ d. C d ⊎ (d ≡ c)) (λ d. C d ⊎ PieceOf m d p) (nextView g v p .sender)
         (λ d x. ⊎-elim inl (λ (e : d ≡ c). inr (subst (λ (y : ℕ). PieceOf m y p) (sym e) is)) x)
         (λ d x. ⊎-elim inl (λ (y : PieceOf m d p). inr (sym (piece-number m k d p y) ∙ piece-number m k c p is)) x)
-        (phase-next g m k admits some last new v C c p is one (o .phase))
+        (phase-next g m k admits last new v C c p is one (o .phase))
 
     still : (p : List ℕ) → isFrom (m .address) p ≡ true → isAccepted (answerTo w p) ≡ false → nextView g v p ≡ v
     unfolding nextView
@@ -189,12 +189,13 @@ module _ (g : Settings) (m : Sent) (k : Cuttable m) (admits : eqb (m .mode) 1 &&
           let d-is : own-one .0 ≡ d = sym (piece-number m k (own-one .0) (b .packet) (own-one .1)) ∙ b .number in
           sym (b .same) ∙ piece-octets m k (own-one .0) (b .packet) (own-one .1) ∙ ap (piece (m .octets) (m .u)) d-is
 
-  arrives : (es : List Event) (w : World) → OnItsWay (λ d. Came m d es) w → (c : ℕ) (p : List ℕ) → PieceOf m c p → Arrives m (verdictFor (g .n1) m last) es w c p
+  arrives : (es : List Event) (w : World) → OnItsWay (λ d. Came m d es) w → (c : ℕ) (p : List ℕ) → PieceOf m c p
+      → Arrives m (verdictFor (g .n1) m last) es c (answerTo w p .outcome) (partTo w p)
   arrives es w o c p is = record {
     delivered = λ none rest. (gave none rest, octets none rest);
-    stored = λ none d numbered ne missing. outcome ∙ phase-more g m k admits some last new v₁ C c p is (o .phase) none d numbered ne missing;
-    held = λ came d numbered missing. outcome ∙ phase-held g m k admits some last new v₁ C c p is (o .phase) came d numbered missing;
-    once = λ all. outcome ∙ phase-once g m k admits some last new v₁ C c p is one (o .phase) all;
+    stored = λ none d numbered ne missing. outcome ∙ phase-more g m k admits last new v₁ C c p is (o .phase) none d numbered ne missing;
+    held = λ came d numbered missing. outcome ∙ phase-held g m k admits last new v₁ C c p is (o .phase) came d numbered missing;
+    once = λ some all. outcome ∙ phase-once g m k admits last new v₁ C c p is one some (o .phase) all;
   }
     where
       C : ℕ → Type 0
@@ -207,7 +208,7 @@ module _ (g : Settings) (m : Sent) (k : Cuttable m) (admits : eqb (m .mode) 1 &&
       outcome = registered-outcome g (m .address) i w (o .registered) p (is .from)
 
       gave : (Came m c es → ⊥) → ((d : ℕ) → Numbered m d → d ≢ c → Came m d es) → answerTo w p .outcome ≡ Delivered (verdictFor (g .n1) m last)
-      gave none rest = outcome ∙ phase-last g m k admits some last new (view w i) (λ d. Came m d es) c p is (o .phase) none rest
+      gave none rest = outcome ∙ phase-last g m k admits last new (view w i) (λ d. Came m d es) c p is (o .phase) none rest
 
       octets : (Came m c es → ⊥) → ((d : ℕ) → Numbered m d → d ≢ c → Came m d es) → partTo w p ≡ m .octets
       octets none rest = same-octets _ c p (partTo w p) is own-all
@@ -295,7 +296,7 @@ module _ (w₀ : World) (start : Start w₀) (past : List Event) (m : Sent) (i :
           let b = fine .has (suc (some .0)) (omega arith) (omega (arith, some .1)) (subst (λ (j : ℕ). bit j (x .message .map) ≡ 1) (sym c-is) (some .2)) in
           unlike (b .packet) (b .among) (ap (λ (y : Kin). y .version) (b .alike) ∙ facts .1) (ap (λ (y : Kin). y .number) (b .alike) ∙ facts .2)
 
-  on-its-way : OnItsWay g₁ m cuttable (may .admits) (may .version) (n1-some (w₁ .state) (sound₁ .is-valid)) i (s₁ .last) (may .no-repeat) (λ d. ⊥) w₁
+  on-its-way : OnItsWay g₁ m cuttable (may .admits) (n1-some (w₁ .state) (sound₁ .is-valid)) i (s₁ .last) (may .no-repeat) (λ d. ⊥) w₁
   on-its-way = record {
     registered = record { sound = sound₁; here = may .here; settings = refl; address = may .registered };
     packets = packets₁;
@@ -306,16 +307,16 @@ module _ (w₀ : World) (start : Start w₀) (past : List Event) (m : Sent) (i :
 
   -- The inner theorem: something else of that sender may come between, if it is refused.
   pub arrives-among : (es : List Event) → Between (ElseRefused m) m i w₁ es → (c : ℕ) (packet : List ℕ) → PieceOf m c packet
-      → Arrives m (verdictFor (w₁ .state .n1) m (s₁ .last)) es (after w₁ es) c packet
+      → Arrives m (verdictFor (w₁ .state .n1) m (s₁ .last)) es c (answerTo (after w₁ es) packet .outcome) (partTo (after w₁ es) packet)
   arrives-among es f c packet is =
       let one = n1-some (w₁ .state) (sound₁ .is-valid) in
-      let then = way-after g₁ m cuttable (may .admits) (may .version) one i (s₁ .last) (may .no-repeat) (λ d. ⊥) w₁ on-its-way es f in
-      arrives g₁ m cuttable (may .admits) (may .version) one i (s₁ .last) (may .no-repeat) es (after w₁ es)
-      (way-same g₁ m cuttable (may .admits) (may .version) one i (s₁ .last) (may .no-repeat) (λ d. ⊥ ⊎ Came m d es) (λ d. Came m d es) (after w₁ es)
+      let then = way-after g₁ m cuttable (may .admits) one i (s₁ .last) (may .no-repeat) (λ d. ⊥) w₁ on-its-way es f in
+      arrives g₁ m cuttable (may .admits) one i (s₁ .last) (may .no-repeat) es (after w₁ es)
+      (way-same g₁ m cuttable (may .admits) one i (s₁ .last) (may .no-repeat) (λ d. ⊥ ⊎ Came m d es) (λ d. Came m d es) (after w₁ es)
       (λ d x. ⊎-elim (λ (y : ⊥). absurd y) (λ y. y) x) (λ d x. inr x) then)
       c packet is
 
   -- "then it is delivered once, octet for octet, at the arrival of the last missing piece."
   pub arrives-only : (es : List Event) → Between (OnlyPieces m) m i w₁ es → (c : ℕ) (packet : List ℕ) → PieceOf m c packet
-      → Arrives m (verdictFor (w₁ .state .n1) m (s₁ .last)) es (after w₁ es) c packet
+      → Arrives m (verdictFor (w₁ .state .n1) m (s₁ .last)) es c (answerTo (after w₁ es) packet .outcome) (partTo (after w₁ es) packet)
   arrives-only es f = arrives-among es (between-wider m i w₁ es f)

@@ -40,11 +40,10 @@ pub record Unfinished (m : Sent) (last : Last) (C : ℕ → Type 0) (s : Sender)
   pub held : (d : ℕ) → Numbered m d → C d → bit (d - 1) (mapOf m s) ≡ 1
   pub came : (d : ℕ) → Numbered m d → bit (d - 1) (mapOf m s) ≡ 1 → C d
 
--- All came, and its number is the last.
+-- All came, and its number is the last, if its version is not 0.
 pub record Finished (m : Sent) (C : ℕ → Type 0) (s : Sender) : Type 0 where
   pub all : (d : ℕ) → Numbered m d → C d
-  pub version : s .last .version .0 ≡ m .version
-  pub number : s .last .number .0 ≡ m .number
+  pub last-is : m .version ≢ 0 → (s .last .version .0 ≡ m .version) × (s .last .number .0 ≡ m .number)
 
 abbrev pub Phase : Sent → Last → (ℕ → Type 0) → Sender → Type 0
 Phase m last C s = Unfinished m last C s ⊎ Finished m C s
@@ -60,7 +59,7 @@ phase-same m last C D s to back (inl f) = inl (record {
   held = λ d numbered e. f .held d numbered (back d e);
   came = λ d numbered e. to d (f .came d numbered e);
 })
-phase-same m last C D s to back (inr f) = inr (record { all = λ d numbered. to d (f .all d numbered); version = f .version; number = f .number })
+phase-same m last C D s to back (inr f) = inr (record { all = λ d numbered. to d (f .all d numbered); last-is = f .last-is })
 
 -- Before any came.
 pub phase-start : (m : Sent) → Cuttable m → (s : Sender) → larger m s ≡ false → isOpen m s ≡ false → Unfinished m (s .last) (λ d. ⊥) s
@@ -79,7 +78,7 @@ phase-start m k s none shut =
 
 -- ---- the arrival of a piece
 
-module _ (g : Settings) (m : Sent) (k : Cuttable m) (admits : eqb (m .mode) 1 && not (g .test) ≡ false) (some : m .version ≢ 0) (last : Last)
+module _ (g : Settings) (m : Sent) (k : Cuttable m) (admits : eqb (m .mode) 1 && not (g .test) ≡ false) (last : Last)
     (new : isRepeat (verdictFor (g .n1) m last) ≡ false) (v : View) (C : ℕ → Type 0) (c : ℕ) (p : List ℕ) (is : PieceOf m c p) where
   abbrev s : Sender
   s = v .sender
@@ -140,9 +139,10 @@ module _ (g : Settings) (m : Sent) (k : Cuttable m) (admits : eqb (m .mode) 1 &&
 
       -- The last missing piece.
       finishes : grown ≡ fullMap (count m) → Finished m With (closed s (lastBy (verdictOf (g .n1) s h) s h))
-      finishes e =
-          let kept : isUnchecked (verdictOf (g .n1) s h) ≡ false = is-checked (g .n1) (s .last .version .0) (s .last .number .0) (h .given .version .0) (h .given .number .0) (λ z. some (sym (is .version) ∙ z)) in
-          record { all = full-all e; version = rw kept (is .version); number = rw kept (is .number) }
+      finishes e = record { all = full-all e; last-is = λ some. rw (kept some) (is .version, is .number) }
+        where
+          kept : m .version ≢ 0 → isUnchecked (verdictOf (g .n1) s h) ≡ false
+          kept some = is-checked (g .n1) (s .last .version .0) (s .last .number .0) (h .given .version .0) (h .given .number .0) (λ z. some (sym (is .version) ∙ z))
 
       -- One of several.
       goes-on : grown ≢ fullMap (count m) → Unfinished m last With (opened s (messageOf (v .now) (mapAfter s h) h))
@@ -201,21 +201,25 @@ module _ (g : Settings) (m : Sent) (k : Cuttable m) (admits : eqb (m .mode) 1 &&
 
   -- ---- once it was delivered
 
-  module _ (one : 1 ≤ g .n1) (f : Finished m C s) where
-    number-finished : numberOf g v p ≡ 17
-    number-finished =
-        let again : verdictFor (g .n1) m (s .last) ≡ Repeat = rw (f .version, f .number) (check-again (g .n1) (m .version) (m .number) some one) in
+  module _ (f : Finished m C s) where
+    number-finished : 1 ≤ g .n1 → m .version ≢ 0 → numberOf g v p ≡ 17
+    number-finished one some =
+        let last-is = f .last-is some in
+        let again : verdictFor (g .n1) m (s .last) ≡ Repeat = rw (last-is .0, last-is .1) (check-again (g .n1) (m .version) (m .number) some one) in
         number-again (g .test) (g .n1) m k admits s c p is (rw again)
 
-    finished-next : Phase m last With (nextView g v p .sender)
+    finished-next : 1 ≤ g .n1 → Finished m With (nextView g v p .sender)
     unfolding nextView
-    finished-next = rw number-finished (inr (record { all = λ d numbered. inl (f .all d numbered); version = f .version; number = f .number }))
+    finished-next one = record {
+      all = λ d numbered. inl (f .all d numbered);
+      last-is = λ some. rw (number-finished one some) (f .last-is some);
+    }
 
   -- ---- in either
 
   pub phase-next : 1 ≤ g .n1 → Phase m last C s → Phase m last With (nextView g v p .sender)
   phase-next one (inl f) = unfinished-next f
-  phase-next one (inr f) = finished-next one f
+  phase-next one (inr f) = inr (finished-next f one)
 
   pub phase-last : Phase m last C s → (C c → ⊥) → ((d : ℕ) → Numbered m d → d ≢ c → C d) → outcomeView g v p ≡ Delivered (verdictFor (g .n1) m last)
   phase-last (inl f) none rest = outcome-last f (not-held f none) (λ d numbered. ⊎-elim (λ (q : d ≡ c). inr q) (λ (q : d ≢ c). inl (rest d numbered q)) (eq-or-ne d c))
@@ -229,9 +233,9 @@ module _ (g : Settings) (m : Sent) (k : Cuttable m) (admits : eqb (m .mode) 1 &&
   phase-held (inl f) here d numbered missing = outcome-held f here
   phase-held (inr f) here d numbered missing = absurd (missing (f .all d numbered))
 
-  pub phase-once : 1 ≤ g .n1 → Phase m last C s → ((d : ℕ) → Numbered m d → C d) → outcomeView g v p ≡ Refused 17
-  phase-once one (inl f) all = absurd (some-missing f all)
-  phase-once one (inr f) all = rw (number-finished one f)
+  pub phase-once : 1 ≤ g .n1 → m .version ≢ 0 → Phase m last C s → ((d : ℕ) → Numbered m d → C d) → outcomeView g v p ≡ Refused 17
+  phase-once one some (inl f) all = absurd (some-missing f all)
+  phase-once one some (inr f) all = rw (number-finished f one some)
 
 -- ---- a clock call that keeps the message
 
@@ -272,7 +276,7 @@ module _ (m : Sent) (last : Last) (C : ℕ → Type 0) (t now : ℕ) (s : Sender
       held = rw (← no-map) (f .held);
       came = rw (← no-map) (f .came);
     })
-    dropped-phase (inr f) = inr (record { all = f .all; version = f .version; number = f .number })
+    dropped-phase (inr f) = inr (record { all = f .all; last-is = f .last-is })
 
   pub phase-clock : joining s ≡ s → (isOpen m s ≡ true → drops t now s ≡ false) → Phase m last C s → Phase m last C later
   phase-clock own kept f = ⊎-elim
