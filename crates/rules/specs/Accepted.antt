@@ -34,16 +34,14 @@ isAccepted a = eqb (refusedNumber (a .outcome)) 0
 abbrev pub hasOpened : List ℕ → Answer → Bool
 hasOpened packet a = eqb (a .held) 1 || eqb (headOf packet .cut .tbn) 1
 
--- The packets from an address accepted since its message last opened, the latest first, when one more packet has come,
-unfoldable pub acceptedWith : Address → List (List ℕ) → World → List ℕ → List (List ℕ)
-acceptedWith a so-far w packet =
-    cond (sameAddress a (source (headOf packet)) && isAccepted (answerTo w packet))
-    (packet ∷ cond (hasOpened packet (answerTo w packet)) [] so-far)
-    so-far
+-- The packets from an address accepted since its message last opened, the latest first, when one more packet got its answer,
+unfoldable pub acceptedWith : Address → List (List ℕ) → List ℕ → Answer → List (List ℕ)
+acceptedWith a so-far packet answer =
+    cond (sameAddress a (source (headOf packet)) && isAccepted answer) (packet ∷ cond (hasOpened packet answer) [] so-far) so-far
 
 -- when one more call was made,
 abbrev pub acceptedBy : Address → List (List ℕ) → World → Event → List (List ℕ)
-acceptedBy a so-far w (message packet) = acceptedWith a so-far w packet
+acceptedBy a so-far w (message packet) = acceptedWith a so-far packet (answerTo w packet)
 acceptedBy a so-far w (alive packet) = so-far
 acceptedBy a so-far w (clock now) = so-far
 acceptedBy a so-far w question = so-far
@@ -57,4 +55,5 @@ acceptedSince a so-far w (e ∷ es) = acceptedSince a (acceptedBy a so-far w e) 
 abbrev pub Safe : World → List Event → List ℕ → Type 0
 Safe w es packet =
     (v : Verdict) → answerTo (after w es) packet .outcome ≡ Delivered v
-    → Joined (acceptedWith (source (headOf packet)) (acceptedSince (source (headOf packet)) [] w es) (after w es) packet) packet (partTo (after w es) packet)
+    → Joined (acceptedWith (source (headOf packet)) (acceptedSince (source (headOf packet)) [] w es) packet (answerTo (after w es) packet)) packet
+    (partTo (after w es) packet)

@@ -165,7 +165,7 @@ module _ (g : Settings) (a : Address) (i : ℕ) (w : World) (r : Registered g a 
         (admitted-facts (w .state .test) (w .state .n1) s (headOf p) (sym is ∙ none))
         (valid-sender (w .state) (r .sound .is-valid) i (r .here) .message))
 
-    own-accepted : acceptedWith a packets w p ≡ cond (eqb (numberOf g (view w i) p) 0) (p ∷ cond (rejoins (view w i .sender) (headOf p)) packets []) packets
+    own-accepted : acceptedWith a packets p (answerTo w p) ≡ cond (eqb (numberOf g (view w i) p) 0) (p ∷ cond (rejoins (view w i .sender) (headOf p)) packets []) packets
     unfolding acceptedWith
     own-accepted = rw (own-address, accepted-zero, ← registered-number g a i w r p mine) (⊎-elim
         (λ (e : number ≡ 0). rw (eq-eqb number 0 e, own-opened e) (turned (rejoins (view w i .sender) (headOf p))))
@@ -187,7 +187,7 @@ module _ (g : Settings) (a : Address) (i : ℕ) (w : World) (r : Registered g a 
           (λ (f : inOrder p ≡ false). absurd (out-of-order (w .state) (length (w .storage)) p (r .sound .is-valid) (r .sound .room) f none))
           (true-or-false (inOrder p))
 
-  other-accepted : isFrom a p ≡ false → acceptedWith a packets w p ≡ packets
+  other-accepted : isFrom a p ≡ false → acceptedWith a packets p (answerTo w p) ≡ packets
   unfolding acceptedWith
   other-accepted e = rw accepted-zero (⊎-elim
       (λ (t : sameAddress a (source (headOf p)) ≡ true). rw (t, ne-eqb number 0 (λ none. never-both (from-accepted t none) e)))
@@ -196,7 +196,7 @@ module _ (g : Settings) (a : Address) (i : ℕ) (w : World) (r : Registered g a 
 
   -- What holds of the packets accepted before and of this one, if it is accepted, holds of all.
   accepted-each : (P : List ℕ → Type 0) → ((q : List ℕ) → List·Memᴰ q packets → P q) → (isFrom a p ≡ true → isAccepted (answerTo w p) ≡ true → P p)
-      → (q : List ℕ) → List·Memᴰ q (acceptedWith a packets w p) → P q
+      → (q : List ℕ) → List·Memᴰ q (acceptedWith a packets p (answerTo w p)) → P q
   unfolding acceptedWith
   accepted-each P old new =
       let same = sameAddress a (source (headOf p)) in
@@ -224,7 +224,7 @@ IfTaken a P w question = Unit {0}
 module _ (g : Settings) (a : Address) (i : ℕ) where
   pub inv-step : (w : World) → Registered g a i w → (packets : List (List ℕ)) → Inv packets (view w i) → (e : Event) → Inv (acceptedBy a packets w e) (view (step w e) i)
   unfolding seen stepView
-  inv-step w r packets inv (message p) = subst (Inv (acceptedWith a packets w p)) (sym (registered-view g a i w r (message p))) (⊎-elim
+  inv-step w r packets inv (message p) = subst (Inv (acceptedWith a packets p (answerTo w p))) (sym (registered-view g a i w r (message p))) (⊎-elim
       (λ (e : isFrom a p ≡ true).
       rw (e, own-accepted g a i w r packets p e)
       (next-inv packets g (view w i) p inv (in-order-size p (unfold isFrom in and-left (inOrder p) (sameAddress a (source (headOf p))) e))))
@@ -334,10 +334,10 @@ module _ (w : World) (start : Start w) (es : List Event) (p : List ℕ) (vd : Ve
   mine₁ : isFrom a₁ p ≡ true
   mine₁ = subst (λ (x : Address). isFrom x p ≡ true) (registered₁ .address) (from-sender w₁ sound₁ p vd gave)
 
-  safe-join : Joined (acceptedWith a₁ packets₁ w₁ p) p (partTo w₁ p)
+  safe-join : Joined (acceptedWith a₁ packets₁ p (answerTo w₁ p)) p (partTo w₁ p)
   safe-join =
       let none₁ = no-number g₁ a₁ i₁ w₁ registered₁ packets₁ inv₁ p mine₁ vd gave in
-      let accepted₁ : acceptedWith a₁ packets₁ w₁ p ≡ p ∷ cond (rejoins (view w₁ i₁ .sender) (headOf p)) packets₁ []
+      let accepted₁ : acceptedWith a₁ packets₁ p (answerTo w₁ p) ≡ p ∷ cond (rejoins (view w₁ i₁ .sender) (headOf p)) packets₁ []
       = own-accepted g₁ a₁ i₁ w₁ registered₁ packets₁ p mine₁ ∙ rw none₁ in
       rw accepted₁ (joined-part g₁ a₁ i₁ w₁ registered₁ packets₁ inv₁ p mine₁ vd gave)
 
