@@ -1,2 +1,4 @@
 pub mod Course
 pub mod CourseLaws
+pub mod Demands
+pub mod DemandsLaws

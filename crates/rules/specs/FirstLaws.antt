@@ -3,7 +3,7 @@ use mathlib.Core.Path.{_≡_, refl, sym, ap, _∙_}
 use mathlib.Core.Logic.{_≢_, _⊎_, inl, inr, ⊎-elim}
 use mathlib.Core.Bool.{Bool, true, false, cond, _&&_}
 use mathlib.Core.List.{List, [], _∷_, _++_}
-use Prim.Native.Nat.{ℕ}
+use Prim.Native.Nat.{ℕ, _<_}
 use native.Mathlib.Omega.{arith}
 use lib.Dec.{eqb, ltb}
 use borrow.Author.Tests.{ltb-true, ne-eqb, eqb-true, eqb-false}
@@ -98,3 +98,9 @@ above k (r ∷ rs) = ltb k (r .number) && above k rs
 unfoldable pub rises : List Row → Bool
 rises [] = true
 rises (r ∷ rs) = above (r .number) rs && rises rs
+
+pub given-above : (j : ℕ) (rs : List Row) (k : ℕ) → above j rs ≡ true → Given rs k → j < k
+unfolding above Given
+given-above j [] k a g = absurd g
+given-above j (r ∷ rs) k a (inl g) = omega (arith, g .1, ltb-true j (r .number) (and-left (ltb j (r .number)) (above j rs) a))
+given-above j (r ∷ rs) k a (inr g) = given-above j rs k (and-right (ltb j (r .number)) (above j rs) a) (g .1)

@@ -1,0 +1,122 @@
+-- The user's three demands, clause by clause, each as a statement about every program whose calls meet the public contracts (Course.antt).
+-- The words that they are written in stand in `rules`: Past, Accepted and Join (safety), Delivery, AlivePast. Proved in DemandsLaws.antt.
+--
+-- Of demand 1, "Nothing is read or written outside what was lent, and every call ends" is what the proof of every function shows, contract or
+-- not; of demand 2, that header, number check and cut are the paper's is shown beside their definitions, in `header`, `ring` and `cut`.
+use Prim.Native.Nat.{ℕ, _<_}
+use mathlib.Core.Path.{_≡_}
+use mathlib.Core.Logic.{_≢_}
+use mathlib.Core.Bool.{true, not, cond}
+use mathlib.Core.List.{List, [], _∷_, map, List·Memᴰ}
+use lib.ListN.{length, take}
+use Rattle.ring.specs.declared.Verdict.{Verdict}
+use Rattle.header.specs.declared.Given.{Given}
+use Rattle.header.specs.Head.{headOf}
+use Rattle.cut.specs.declared.cutter.Cutting.{Cutting}
+use Rattle.cut.specs.declared.cutter.Cutting.the-variants as cutting
+use Rattle.cut.specs.Cutter.{cuts}
+use Rattle.cut.specs.ReadLaws.{Words}
+use Rattle.state.specs.declared.Address.{Address}
+use Rattle.state.specs.Limits.{addressAt}
+use Rattle.state.specs.State.{senderAt, emptyReceiver}
+use Rattle.state.specs.Table.{source}
+use Rattle.rules.specs.declared.answers.Call.the-variants as call
+use Rattle.rules.specs.declared.answers.Missing.the-variants as missing
+use Rattle.rules.specs.declared.answers.Outcome.the-variants as outcome
+use Rattle.rules.specs.declared.answers.Setup.{Setup}
+use Rattle.rules.specs.declared.answers.Started.{Started}
+use Rattle.rules.specs.Accepted.{acceptedWith}
+use Rattle.rules.specs.Alive.{aliveRows}
+use Rattle.rules.specs.AlivePast.{AliveBy}
+use Rattle.rules.specs.Clock.{clockRows}
+use Rattle.rules.specs.Delivery.{Sent, PieceOf, May, Between, OnlyPieces, verdictFor, Arrives}
+use Rattle.rules.specs.First.{Row, row}
+use Rattle.rules.specs.FirstLaws as rows
+use Rattle.rules.specs.Join.{Joined}
+use Rattle.rules.specs.Message.{messageRows}
+use Rattle.rules.specs.Past.{World, Event, message, alive, clock, question}
+use Rattle.rules.specs.Question.{questionRows}
+use Rattle.rules.specs.Setup.{setupWithin}
+use Rattle.promises.specs.Course.{Said, Meets, Answers, Course, SetupMeets, CutterMeets}
+
+-- ---- demand 1
+
+-- Number k was answered.
+abbrev pub Refused : (e : Event) → Said e → ℕ → Type 0
+Refused (message packet) r k = r .0 .outcome ≡ outcome.Refused k
+Refused (alive packet) r k = r .call ≡ call.Refused k
+Refused (clock now) r k = r .call ≡ call.Refused k
+Refused question r k = r ≡ missing.Refused k
+
+-- The numbers of a call, with their conditions, in the order in which they are tried.
+abbrev pub rowsOf : World → Event → List Row
+rowsOf w (message packet) = messageRows (w .state) (length (w .storage)) packet
+rowsOf w (alive packet) = aliveRows (w .state) packet
+rowsOf w (clock now) = clockRows (w .state) now
+rowsOf w question = questionRows (w .state)
+
+-- "Bad input meets the numbered refusal that the papers fix": number k, exactly if its row is the first that applies. "A refusal changes neither
+-- the state nor one octet of lent memory": what that leaves.
+pub record Refuses (table : List Row) (answered : ℕ → Type 0) (unchanged : Type 0) : Type 0 where
+  pub only-if : (k : ℕ) → answered k → rows.Given table k
+  pub if-first : (k : ℕ) → rows.Given table k → answered k
+  pub nothing : (k : ℕ) → answered k → unchanged
+
+-- "Any octets may arrive, in any order of calls, at every public entry."
+abbrev pub CallsRefuse : Type 0
+CallsRefuse = (w : World) (e : Event) (r : Said e) (v : World) → Meets w e r v → Refuses (rowsOf w e) (Refused e r) (v ≡ w)
+
+-- "10: setup outside its limits: empty state"
+abbrev pub SetupRefuses : Type 0
+SetupRefuses = (q : Setup) (r : Started) (w : World) → SetupMeets q r w
+    → Refuses (row 10 (not (setupWithin q)) ∷ []) (λ k. r .call ≡ call.Refused k) (w .state ≡ emptyReceiver)
+
+-- "23: cutter: n, u, piece number or a header value outside limits, or buffer short"
+abbrev pub CutterRefuses : Type 0
+CutterRefuses = (g : Given) (m : List ℕ) (u c : ℕ) (buffer : List ℕ) (r : Cutting) (left : List ℕ) → CutterMeets g m u c buffer r left
+    → Refuses (row 23 (not (cuts g m u c (length buffer))) ∷ []) (λ k. (k ≡ 23) × (r ≡ cutting.Refused)) (left ≡ buffer)
+
+-- What is said of the calls after any past.
+abbrev pub AfterPast : ((w : World) (es : List Event) → Answers es → World → Type 0) → Type 0
+AfterPast P = (q : Setup) (r : Started) (w : World) → SetupMeets q r w → (es : List Event) (rs : Answers es) (v : World) → Course w es rs v → P w es rs v
+
+-- No past meets 9 or 11.
+abbrev pub NeverNine : Type 0
+NeverNine = AfterPast (λ w es rs v. (e : Event) (r : Said e) (u : World) → Meets v e r u → ¬ (Refused e r 9) × ¬ (Refused e r 11))
+
+-- ---- demand 2
+
+-- "the judging of alive signals": who is alive after a past is what the past alone says.
+abbrev pub Alive : Type 0
+Alive = AfterPast (λ w es rs v. (i : ℕ) → i < w .state .count
+    → (senderAt (v .state) i .alive ≡ true → AliveBy (addressAt (w .state .senders) i) es)
+    × (AliveBy (addressAt (w .state .senders) i) es → senderAt (v .state) i .alive ≡ true))
+
+-- ---- demand 3
+
+-- "Let a receiver have any past at all … Now a registered sender's message arrives in its pieces, cut by the rules, in any order and some of
+-- them more than once, with other senders' packets between. If …, then it is delivered once, octet for octet, at the arrival of the last
+-- missing piece."
+abbrev pub Delivery : Type 0
+Delivery = AfterPast (λ w past rs v. (m : Sent) (i : ℕ) → May m i past v
+    → (es : List Event) (ts : Answers es) (u : World) → Course v es ts u → Between (OnlyPieces m) m i v es
+    → (c : ℕ) (packet : List ℕ) → PieceOf m c packet → (r : Said (message packet)) (x : World) → Meets u (message packet) r x
+    → Arrives m (verdictFor (v .state .n1) m (senderAt (v .state) i .last)) es c (r .0 .outcome) (r .1))
+
+-- The packets from an address accepted since its message last opened, said by the answers alone.
+abbrev pub acceptedOf : Address → List (List ℕ) → (e : Event) → Said e → List (List ℕ)
+acceptedOf a so-far (message packet) r = acceptedWith a so-far packet (r .0)
+acceptedOf a so-far (alive packet) r = so-far
+acceptedOf a so-far (clock now) r = so-far
+acceptedOf a so-far question r = so-far
+
+unfoldable pub acceptedIn : Address → List (List ℕ) → (es : List Event) → Answers es → List (List ℕ)
+acceptedIn a so-far [] rs = so-far
+acceptedIn a so-far (e ∷ es) rs = acceptedIn a (acceptedOf a so-far e (rs .0)) es (rs .1)
+
+-- "Whether or not those conditions hold, nothing is ever delivered but a join of pieces accepted since that message last opened, one for each
+-- piece number."
+abbrev pub Safety : Type 0
+Safety = AfterPast (λ w es rs v. (packet : List ℕ) (r : Said (message packet)) (u : World) → Meets v (message packet) r u
+    → (verdict : Verdict) → r .0 .outcome ≡ outcome.Delivered verdict
+    → Joined (acceptedWith (source (headOf packet)) (acceptedIn (source (headOf packet)) [] es rs) packet (r .0)) packet (r .1))
