@@ -29,7 +29,7 @@ use Rattle.rules.specs.Accepted.{acceptedWith}
 use Rattle.rules.specs.Alive.{aliveRows}
 use Rattle.rules.specs.AlivePast.{AliveBy}
 use Rattle.rules.specs.Clock.{clockRows}
-use Rattle.rules.specs.Delivery.{Sent, PieceOf, May, Between, OnlyPieces, verdictFor, Arrives}
+use Rattle.rules.specs.Delivery.{Sent, PieceOf, May, Between, OnlyPieces, verdictFor, Arrives, Once}
 use Rattle.rules.specs.First.{Row, row}
 use Rattle.rules.specs.FirstLaws as rows
 use Rattle.rules.specs.Join.{Joined}
@@ -101,7 +101,7 @@ abbrev pub Delivery : Type 0
 Delivery = AfterPast (λ w past rs v. (m : Sent) (i : ℕ) → May m i past v
     → (es : List Event) (ts : Answers es) (u : World) → Course v es ts u → Between (OnlyPieces m) m i v es
     → (c : ℕ) (packet : List ℕ) → PieceOf m c packet → (r : Said (message packet)) (x : World) → Meets u (message packet) r x
-    → Arrives m (verdictFor (v .state .n1) m (senderAt (v .state) i .last)) es c (r .0 .outcome) (r .1))
+    → Arrives m (verdictFor (v .state .n1) m (senderAt (v .state) i .last)) es c (r .0 .outcome) (r .1) × (m .version ≢ 0 → Once m es (r .0 .outcome)))
 
 -- The packets from an address accepted since its message last opened, said by the answers alone.
 abbrev pub acceptedOf : Address → List (List ℕ) → (e : Event) → Said e → List (List ℕ)

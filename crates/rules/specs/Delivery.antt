@@ -127,8 +127,8 @@ ElseRefused m w packet = ((c : ℕ) × PieceOf m c packet) ⊎ (((c : ℕ) → �
 
 -- ---- what is promised
 
--- "then it is delivered once, octet for octet, at the arrival of the last missing piece": the outcome of the call with the PDU of piece c, and
--- the part that is then handed over, after the calls es since the past. The verdict is what the check gave after the past.
+-- "then it is delivered …, octet for octet, at the arrival of the last missing piece": the outcome of the call with the PDU of piece c, and the
+-- part that is then handed over, after the calls es since the past. The verdict is what the check gave after the past.
 pub record Arrives (m : Sent) (verdict : Verdict) (es : List Event) (c : ℕ) (outcome : Outcome) (part : List ℕ) : Type 0 where
   -- It is the last missing piece.
   pub delivered : ¬ (Came m c es) → ((d : ℕ) → Numbered m d → d ≢ c → Came m d es) → (outcome ≡ Delivered verdict) × (part ≡ m .octets)
@@ -136,5 +136,7 @@ pub record Arrives (m : Sent) (verdict : Verdict) (es : List Event) (c : ℕ) (o
   pub stored : ¬ (Came m c es) → (d : ℕ) → Numbered m d → d ≢ c → ¬ (Came m d es) → outcome ≡ Stored
   -- It came before, and some piece is missing.
   pub held : Came m c es → (d : ℕ) → Numbered m d → ¬ (Came m d es) → outcome ≡ Refused 20
-  -- All came before, so the message was delivered. "If its version is not 0" is asked for this alone.
-  pub once : m .version ≢ 0 → ((d : ℕ) → Numbered m d → Came m d es) → outcome ≡ Refused 17
+
+-- "once": all came before, so the message was delivered. "If its version is not 0" is asked for this alone.
+abbrev pub Once : Sent → List Event → Outcome → Type 0
+Once m es outcome = ((d : ℕ) → Numbered m d → Came m d es) → outcome ≡ Refused 17

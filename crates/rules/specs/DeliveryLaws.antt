@@ -32,7 +32,7 @@ use Rattle.rules.specs.AcceptedLaws.{accepted-is}
 use Rattle.rules.specs.Admit.{rejoins}
 use Rattle.rules.specs.Clock.{drops, aged, ticked, notTicked, clockAnswer}
 use Rattle.rules.specs.ClockLaws.{not-reported}
-use Rattle.rules.specs.Delivery.{Sent, count, Numbered, PieceOf, Brings, Came, isOpen, verdictFor, KeptBy, Allowed, Between, OnlyPieces, ElseRefused, May, Arrives}
+use Rattle.rules.specs.Delivery.{Sent, count, Numbered, PieceOf, Brings, Came, isOpen, verdictFor, KeptBy, Allowed, Between, OnlyPieces, ElseRefused, May, Arrives, Once}
 use Rattle.rules.specs.Join.{Kin, kinOf, kinIn, numberIn, Brought, Joined}
 use Rattle.rules.specs.Message.{messageNumber, messageAnswer, taken, refused}
 use Rattle.rules.specs.Past.{World, Event, message, alive, clock, question, step, after, Start}
@@ -190,13 +190,12 @@ module _ (g : Settings) (m : Sent) (k : Cuttable m) (admits : eqb (m .mode) 1 &&
           sym (b .same) ∙ piece-octets m k (own-one .0) (b .packet) (own-one .1) ∙ ap (piece (m .octets) (m .u)) d-is
 
   arrives : (es : List Event) (w : World) → OnItsWay (λ d. Came m d es) w → (c : ℕ) (p : List ℕ) → PieceOf m c p
-      → Arrives m (verdictFor (g .n1) m last) es c (answerTo w p .outcome) (partTo w p)
-  arrives es w o c p is = record {
+      → Arrives m (verdictFor (g .n1) m last) es c (answerTo w p .outcome) (partTo w p) × (m .version ≢ 0 → Once m es (answerTo w p .outcome))
+  arrives es w o c p is = (record {
     delivered = λ none rest. (gave none rest, octets none rest);
     stored = λ none d numbered ne missing. outcome ∙ phase-more g m k admits last new v₁ C c p is (o .phase) none d numbered ne missing;
     held = λ came d numbered missing. outcome ∙ phase-held g m k admits last new v₁ C c p is (o .phase) came d numbered missing;
-    once = λ some all. outcome ∙ phase-once g m k admits last new v₁ C c p is one some (o .phase) all;
-  }
+  }, λ some all. outcome ∙ phase-once g m k admits last new v₁ C c p is one some (o .phase) all)
     where
       C : ℕ → Type 0
       C d = Came m d es
@@ -308,6 +307,7 @@ module _ (w₀ : World) (start : Start w₀) (past : List Event) (m : Sent) (i :
   -- The inner theorem: something else of that sender may come between, if it is refused.
   pub arrives-among : (es : List Event) → Between (ElseRefused m) m i w₁ es → (c : ℕ) (packet : List ℕ) → PieceOf m c packet
       → Arrives m (verdictFor (w₁ .state .n1) m (s₁ .last)) es c (answerTo (after w₁ es) packet .outcome) (partTo (after w₁ es) packet)
+      × (m .version ≢ 0 → Once m es (answerTo (after w₁ es) packet .outcome))
   arrives-among es f c packet is =
       let one = n1-some (w₁ .state) (sound₁ .is-valid) in
       let then = way-after g₁ m cuttable (may .admits) one i (s₁ .last) (may .no-repeat) (λ d. ⊥) w₁ on-its-way es f in
@@ -319,4 +319,5 @@ module _ (w₀ : World) (start : Start w₀) (past : List Event) (m : Sent) (i :
   -- "then it is delivered once, octet for octet, at the arrival of the last missing piece."
   pub arrives-only : (es : List Event) → Between (OnlyPieces m) m i w₁ es → (c : ℕ) (packet : List ℕ) → PieceOf m c packet
       → Arrives m (verdictFor (w₁ .state .n1) m (s₁ .last)) es c (answerTo (after w₁ es) packet .outcome) (partTo (after w₁ es) packet)
+      × (m .version ≢ 0 → Once m es (answerTo (after w₁ es) packet .outcome))
   arrives-only es f = arrives-among es (between-wider m i w₁ es f)

@@ -31,8 +31,11 @@ pub mod Accepted
 pub mod AcceptedLaws
 pub mod SafeLaws
 pub mod Delivery
+pub mod CutPieces
 pub mod PieceLaws
 pub mod PhaseLaws
 pub mod DeliveryLaws
 pub mod AlivePast
 pub mod AlivePastLaws
+pub mod Needed
+pub mod NeededLaws
