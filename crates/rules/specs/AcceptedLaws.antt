@@ -1,21 +1,18 @@
 -- What the answers say of a packet is what its sender's record does with it: whether it was accepted, and whether its message opened.
 -- Assumes nothing.
-use Prim.Native.Nat.{ℕ, zero, suc, _+_, _-_, _^_, _≤_, _<_}
+use Prim.Native.Nat.{ℕ, _+_, _-_, _≤_, _<_}
 use mathlib.Core.Path.{_≡_, refl, sym, ap, _∙_}
 use mathlib.Core.Logic.{_≢_, ⊎-elim}
-use mathlib.Core.Bool.{Bool, true, false, not, cond, _&&_, _||_}
-use mathlib.Core.List.{List, [], _∷_}
+use mathlib.Core.Bool.{Bool, true, false, not, _||_}
+use mathlib.Core.List.{List}
 use native.Mathlib.Omega.{arith}
 use lib.Count.{ones}
 use lib.Dec.{eqb}
-use lib.ListN.{length}
-use borrow.Author.Tests.{eqb-true, eq-eqb, ne-eqb}
-use Rattle.octets.specs.Split.{eq-or-ne, true-or-false, never-both, cond-case, and-left, and-right}
+use borrow.Author.Tests.{eq-eqb, ne-eqb}
+use Rattle.octets.specs.Split.{eq-or-ne, true-or-false, cond-case, and-left}
 use Rattle.header.specs.declared.Head.{Head}
 use Rattle.header.specs.Head.{headOf}
-use Rattle.cut.specs.Possible.{messageLength, unit}
 use Rattle.cut.specs.PossibleLaws.{possible-facts, several-facts}
-use Rattle.state.specs.declared.Message.{Message}
 use Rattle.state.specs.declared.Receiver.{Receiver}
 use Rattle.state.specs.declared.Sender.{Sender}
 use Rattle.state.specs.Limits.{messageWithin}
@@ -25,8 +22,8 @@ use Rattle.state.specs.State.{senderAt}
 use Rattle.state.specs.Table.{found}
 use Rattle.state.specs.WithinLaws.{MessageWithin, message-facts}
 use Rattle.rules.specs.declared.answers.Answer.{Answer}
-use Rattle.rules.specs.Accepted.{isAccepted, hasOpened}
-use Rattle.rules.specs.Admit.{rejoins, sameCut, mapAfter, fills, heldAfter, admitted, refusedNumber}
+use Rattle.rules.specs.Accepted.{isAccepted}
+use Rattle.rules.specs.Admit.{rejoins, mapAfter, fills, heldAfter}
 use Rattle.rules.specs.AdmitLaws.{Admitted, admitted-zero}
 use Rattle.rules.specs.Join.{Kin}
 use Rattle.rules.specs.JoinLaws.{kin-same}

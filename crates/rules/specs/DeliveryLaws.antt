@@ -1,20 +1,18 @@
 -- A message is delivered once, octet for octet, at the arrival of its last missing piece. Assumes nothing.
-use Prim.Native.Nat.{ℕ, suc, _+_, _-_, _≤_, _<_}
+use Prim.Native.Nat.{ℕ, suc, _-_, _≤_, _<_}
 use mathlib.Core.Path.{_≡_, refl, sym, ap, subst, _∙_}
 use mathlib.Core.Logic.{_≢_, _⊎_, inl, inr, ⊎-elim}
-use mathlib.Core.Bool.{Bool, true, false, not, cond, _&&_, _||_}
-use mathlib.Core.List.{List, [], _∷_, _++_, List·Memᴰ, List·Memᴰ·head, List·Memᴰ·tail, List·Memᴰ·cases-cons, List·Memᴰ·not-nil}
+use mathlib.Core.Bool.{true, false, not, cond, _&&_, _||_}
+use mathlib.Core.List.{List, [], _∷_, List·Memᴰ, List·Memᴰ·cases-cons, List·Memᴰ·not-nil}
 use native.Mathlib.Omega.{arith}
 use lib.Dec.{eqb, leb, ltb}
 use lib.ListN.{length}
 use borrow.Author.Tests.{eqb-true, leb-true}
-use Rattle.octets.specs.Split.{eq-or-ne, true-or-false, never-both, cond-case, and-left, and-right}
+use Rattle.octets.specs.Split.{true-or-false, never-both, cond-case, and-left, and-right}
 use Rattle.ring.specs.Check.{isRepeat}
-use Rattle.header.specs.declared.Head.{Head}
 use Rattle.header.specs.Head.{headOf}
 use Rattle.cut.specs.Pieces.{pieces, piece, joined}
 use Rattle.cut.specs.PiecesLaws.{pieces-join, joined-same}
-use Rattle.state.specs.declared.Address.{Address}
 use Rattle.state.specs.declared.Last.{Last}
 use Rattle.state.specs.declared.Receiver.{Receiver}
 use Rattle.state.specs.declared.Sender.{Sender}
@@ -23,25 +21,22 @@ use Rattle.state.specs.Map.{bit}
 use Rattle.state.specs.MapLaws.{piece-some}
 use Rattle.state.specs.State.{senderAt}
 use Rattle.state.specs.WithinLaws.{valid-settings, valid-sender, message-facts}
-use Rattle.state.specs.Table.{source, found}
-use Rattle.rules.specs.declared.answers.Answer.{Answer}
-use Rattle.rules.specs.declared.answers.Outcome.{Outcome}
-use Rattle.rules.specs.declared.answers.Outcome.the-variants.{Refused, Stored, Delivered}
+use Rattle.rules.specs.declared.answers.Outcome.the-variants.{Delivered}
 use Rattle.rules.specs.Accepted.{answerTo, partTo, isAccepted, acceptedBy, acceptedSince}
 use Rattle.rules.specs.AcceptedLaws.{accepted-is}
 use Rattle.rules.specs.Admit.{rejoins}
-use Rattle.rules.specs.Clock.{drops, aged, ticked, notTicked, clockAnswer}
+use Rattle.rules.specs.Clock.{drops}
 use Rattle.rules.specs.ClockLaws.{not-reported}
 use Rattle.rules.specs.Delivery.{Sent, count, Numbered, PieceOf, Brings, Came, isOpen, verdictFor, KeptBy, Allowed, Between, OnlyPieces, ElseRefused, May, Arrives, Once}
-use Rattle.rules.specs.Join.{Kin, kinOf, kinIn, numberIn, Brought, Joined}
-use Rattle.rules.specs.Message.{messageNumber, messageAnswer, taken, refused}
+use Rattle.rules.specs.Join.{Kin, kinOf, Joined}
+use Rattle.rules.specs.Message.{taken, refused}
 use Rattle.rules.specs.Past.{World, Event, message, alive, clock, question, step, after, Start}
 use Rattle.rules.specs.PastLaws.{Sound, start-sound, past-sound, after-count}
 use Rattle.rules.specs.PhaseLaws.{Phase, phase-same, phase-start, phase-next, phase-last, phase-more, phase-held, phase-once, phase-clock}
-use Rattle.rules.specs.PieceLaws.{Cuttable, least, larger, piece-kin, piece-number, piece-octets}
+use Rattle.rules.specs.PieceLaws.{Cuttable, least, piece-kin, piece-number, piece-octets}
 use Rattle.rules.specs.JoinLaws.{Inv}
 use Rattle.rules.specs.SafeLaws.{IfTaken, accepted-step, accepted-all, inv-step, inv-after, joined-part, start-inv, start-registered}
-use Rattle.rules.specs.View.{Settings, settingsFrom, View, joining, view, inOrder, isFrom, seen, numberOf, outcomeView, nextView, tickView, stepView}
+use Rattle.rules.specs.View.{Settings, settingsFrom, View, joining, view, isFrom, seen, outcomeView, nextView, tickView, stepView}
 use Rattle.rules.specs.ViewLaws.{Registered, registered-step, registered-view, registered-number, registered-outcome, registered-after}
 
 open-facts : (m : Sent) (s : Sender) → isOpen m s ≡ true → (s .«open» ≡ true) × (s .message .version .0 ≡ m .version) × (s .message .number .0 ≡ m .number)
@@ -191,11 +186,14 @@ module _ (g : Settings) (m : Sent) (k : Cuttable m) (admits : eqb (m .mode) 1 &&
 
   arrives : (es : List Event) (w : World) → OnItsWay (λ d. Came m d es) w → (c : ℕ) (p : List ℕ) → PieceOf m c p
       → Arrives m (verdictFor (g .n1) m last) es c (answerTo w p .outcome) (partTo w p) × (m .version ≢ 0 → Once m es (answerTo w p .outcome))
-  arrives es w o c p is = (record {
-    delivered = λ none rest. (gave none rest, octets none rest);
-    stored = λ none d numbered ne missing. outcome ∙ phase-more g m k admits last new v₁ C c p is (o .phase) none d numbered ne missing;
-    held = λ came d numbered missing. outcome ∙ phase-held g m k admits last new v₁ C c p is (o .phase) came d numbered missing;
-  }, λ some all. outcome ∙ phase-once g m k admits last new v₁ C c p is one some (o .phase) all)
+  arrives es w o c p is = (
+    record {
+      delivered = λ none rest. (gave none rest, octets none rest);
+      stored = λ none d numbered ne missing. outcome ∙ phase-more g m k admits last new v₁ C c p is (o .phase) none d numbered ne missing;
+      held = λ came d numbered missing. outcome ∙ phase-held g m k admits last new v₁ C c p is (o .phase) came d numbered missing;
+    },
+    λ some all. outcome ∙ phase-once g m k admits last new v₁ C c p is one some (o .phase) all,
+  )
     where
       C : ℕ → Type 0
       C d = Came m d es
@@ -215,7 +213,7 @@ module _ (g : Settings) (m : Sent) (k : Cuttable m) (admits : eqb (m .mode) 1 &&
         where
           own-all : (q : List ℕ) → List·Memᴰ q (p ∷ cond (rejoins (view w i .sender) (headOf p)) (o .packets) []) → Own q
           own-all q among = ⊎-elim
-              (λ (e : q ≡ p) _ _. (c , subst (PieceOf m c) (sym e) is))
+              (λ (e : q ≡ p) _ _. (c, subst (PieceOf m c) (sym e) is))
               (λ (rest : List·Memᴰ q (cond (rejoins (view w i .sender) (headOf p)) (o .packets) [])).
               cond-case (λ (x : List (List ℕ)). List·Memᴰ q x → Own q) (rejoins (view w i .sender) (headOf p)) (o .packets) [] (λ _. o .own q) (λ _ nothing. absurd (List·Memᴰ·not-nil nothing)) rest)
               (List·Memᴰ·cases-cons among)

@@ -29,7 +29,7 @@ use Rattle.state.specs.Map.{bit}
 use Rattle.state.specs.State.{senderAt, firstWhere}
 use Rattle.rules.specs.declared.answers.Outcome.{Outcome}
 use Rattle.rules.specs.declared.answers.Outcome.the-variants.{Refused, Stored, Delivered}
-use Rattle.rules.specs.Accepted.{answerTo, partTo}
+use Rattle.rules.specs.Accepted.{partTo}
 use Rattle.rules.specs.Admit.{rejoins, sameCut, senderRows, mapAfter, fills, senderAfter, admitted, outcomeNumber}
 use Rattle.rules.specs.Clock.{aged, agedSenders, mapWhere, ticked, clockAnswer}
 use Rattle.rules.specs.Delivery.{Sent, count, PieceOf, Brings, Came, isOpen, May, Allowed, Between, OnlyPieces, Arrives, Once}

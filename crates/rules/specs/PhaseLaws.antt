@@ -7,18 +7,15 @@ use mathlib.Core.List.{List}
 use native.Mathlib.Omega.{arith}
 use lib.Dec.{eqb}
 use lib.Pow.{pow-pos, pow-lt}
-use borrow.Author.Tests.{eqb-true, eqb-false, eq-eqb, ne-eqb}
-use Rattle.octets.specs.Split.{eq-or-ne, true-or-false, never-both, cond-case}
-use Rattle.ring.specs.declared.Verdict.{Verdict}
+use borrow.Author.Tests.{eqb-true, eq-eqb, ne-eqb}
+use Rattle.octets.specs.Split.{eq-or-ne, true-or-false, never-both}
 use Rattle.ring.specs.declared.Verdict.the-variants.{Repeat}
 use Rattle.ring.specs.Check.{isRepeat, isUnchecked}
 use Rattle.ring.specs.CheckLaws.{is-checked, check-again}
-use Rattle.ring.specs.Ring.{newer}
 use Rattle.ring.specs.RingLaws.{not-newer}
 use Rattle.header.specs.declared.Head.{Head}
 use Rattle.header.specs.Head.{headOf}
 use Rattle.state.specs.declared.Last.{Last}
-use Rattle.state.specs.declared.Message.{Message}
 use Rattle.state.specs.declared.Sender.{Sender}
 use Rattle.state.specs.Map.{bit, holds, pieceBit, fullMap}
 use Rattle.state.specs.MapLaws.{bit-set, bit-keep, bit-zero, set-below, full-bit, full-only, holds-not}

@@ -1,14 +1,14 @@
 -- What a sender's record makes of a piece of a message that is on its way. Assumes nothing.
-use Prim.Native.Nat.{ℕ, _+_, _-_, _^_, _≤_, _<_}
-use mathlib.Core.Path.{_≡_, refl, sym, ap, subst, _∙_}
-use mathlib.Core.Logic.{_≢_, ⊎-elim}
+use Prim.Native.Nat.{ℕ, _+_, _-_, _≤_, _<_}
+use mathlib.Core.Path.{_≡_, sym, ap, subst, _∙_}
+use mathlib.Core.Logic.{⊎-elim}
 use mathlib.Core.Bool.{Bool, true, false, not, cond, _&&_}
 use mathlib.Core.List.{List}
 use native.Mathlib.Omega.{arith}
 use lib.Dec.{eqb, leb}
 use lib.ListN.{length, drop}
 use lib.Seq.{take-all}
-use borrow.Author.Tests.{eqb-true, eq-eqb, leb-true}
+use borrow.Author.Tests.{eq-eqb, leb-true}
 use Rattle.octets.specs.Run.{run}
 use Rattle.octets.specs.Split.{lt-or-le, true-or-false, both, and-left, and-right}
 use Rattle.ring.specs.Check.{isRepeat}
@@ -21,7 +21,7 @@ use Rattle.header.specs.Head.{headOf, isFixed}
 use Rattle.header.specs.Places.{headerSize}
 use Rattle.cut.specs.Cutter.{cutFor}
 use Rattle.cut.specs.CutterLaws.{Within, length-piece, unit-same, cut-possible, cut-same}
-use Rattle.cut.specs.Pieces.{mostOctets, leastUnit, mostUnit, pieces, pieceLength, piece}
+use Rattle.cut.specs.Pieces.{mostOctets, leastUnit, mostUnit, pieces, piece}
 use Rattle.cut.specs.PiecesLaws.{pieces-one, pieces-some}
 use Rattle.cut.specs.Possible.{possible, messageLength, ownLength, unit, isUnit}
 use Rattle.state.specs.declared.Message.{Message}

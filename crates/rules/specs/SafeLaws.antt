@@ -7,7 +7,7 @@ use mathlib.Core.List.{List, [], _∷_, List·Memᴰ, List·Memᴰ·head, List·
 use native.Mathlib.Nat.{mul-le-mul-right, suc-mul}
 use native.Mathlib.Omega.{arith}
 use lib.Dec.{eqb, ltb}
-use lib.ListN.{length, drop, getD, length-drop}
+use lib.ListN.{length, drop, length-drop}
 use lib.Seq.{take-all}
 use borrow.Author.Tests.{eqb-true, eq-eqb, ne-eqb, le-leb, not-true, not-false}
 use Rattle.octets.specs.Run.{run}
@@ -20,12 +20,11 @@ use Rattle.header.specs.Places.{headerSize}
 use Rattle.cut.specs.Possible.{possible, messageLength, ownLength}
 use Rattle.cut.specs.PossibleLaws.{possible-facts}
 use Rattle.state.specs.declared.Address.{Address}
-use Rattle.state.specs.declared.Receiver.{Receiver}
 use Rattle.state.specs.declared.Sender.{Sender}
-use Rattle.state.specs.Limits.{sameAddress, addressAt, valid, given}
-use Rattle.state.specs.State.{noSender, newSender, emptyReceiver, senderAt}
+use Rattle.state.specs.Limits.{sameAddress, addressAt, valid}
+use Rattle.state.specs.State.{senderAt}
 use Rattle.state.specs.Table.{source, found}
-use Rattle.state.specs.WithinLaws.{written-place, valid-sender, same-is}
+use Rattle.state.specs.WithinLaws.{valid-sender, same-is}
 use Rattle.rules.specs.declared.answers.Answer.{Answer}
 use Rattle.rules.specs.declared.answers.Outcome.the-variants.{Refused, Stored, Delivered}
 use Rattle.rules.specs.Accepted.{answerTo, isAccepted, hasOpened, acceptedWith, acceptedBy, acceptedSince, partTo, Safe}
