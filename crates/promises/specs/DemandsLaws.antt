@@ -1,8 +1,8 @@
 -- The demands, proved: every course is the one that `rules` speaks of, and of that one `rules` has proved them. Assumes nothing.
-use Prim.Native.Nat.{ℕ, _<_}
+use Prim.Native.Nat.{ℕ, _+_, _<_}
 use mathlib.Core.Path.{_≡_, refl, sym, ap, subst, _∙_}
 use mathlib.Core.Logic.{_≢_, _⊎_, inl, inr, ⊎-elim}
-use mathlib.Core.Bool.{Bool, true, false, not}
+use mathlib.Core.Bool.{Bool, true, false, not, cond}
 use mathlib.Core.List.{List, [], _∷_}
 use native.Mathlib.Omega.{arith}
 use lib.Dec.{eqb}
@@ -14,7 +14,9 @@ use Rattle.header.specs.declared.Given.{Given}
 use Rattle.header.specs.Head.{headOf}
 use Rattle.cut.specs.declared.cutter.Cutting.{Cutting}
 use Rattle.cut.specs.declared.cutter.Cutting.the-variants as cutting
-use Rattle.cut.specs.Cutter.{cuts, cutterAnswer, cutterBuffer, cuttingNumber}
+use Rattle.header.specs.Places.{headerSize}
+use Rattle.cut.specs.Cutter.{cuts, cutterAnswer, cutterBuffer}
+use Rattle.cut.specs.Pieces.{pieceLength}
 use Rattle.state.specs.declared.Address.{Address}
 use Rattle.state.specs.Limits.{addressAt, valid}
 use Rattle.state.specs.State.{senderAt, emptyReceiver}
@@ -76,3 +78,39 @@ calls-refuse w e r v m =
     let is = one-call w e r v m in
     subst (λ (x : Said e). Refuses (rowsOf w e) (Refused e x) (v ≡ w)) (sym (is .0))
     (subst (λ (x : World). Refuses (rowsOf w e) (Refused e (said w e)) (x ≡ w)) (sym (is .1)) (said-refuses w e))
+
+-- One row, which applies or not.
+one-row : (k : ℕ) (b : Bool) (answered : ℕ → Type 0) (unchanged : Type 0) → ((j : ℕ) → answered j → (j ≡ k) × (b ≡ true)) → (b ≡ true → answered k)
+    → (b ≡ true → unchanged) → Refuses (row k b ∷ []) answered unchanged
+one-row k b answered unchanged only must left = record {
+  only-if = λ j a. unfold rows.Given in inl (only j a .1, sym (only j a .0));
+  if-first = λ j g. unfold rows.Given in from-row g;
+  nothing = λ j a. left (only j a .1);
+}
+  where
+    from-row : {j : ℕ} → ((b ≡ true) × (k ≡ j)) ⊎ ((b ≡ false) × ⊥) → answered j
+    from-row (inl g) = subst answered (g .1) (must (g .0))
+    from-row (inr g) = absurd (g .1)
+
+pub setup-refuses-all : SetupRefuses
+setup-refuses-all q r w m = one-row 10 (not (setupWithin q)) (λ k. r .call ≡ call.Refused k) (w .state ≡ emptyReceiver)
+    (λ j a. let f = setup-given q j (sym (ap (λ (x : Started). x .call) (m .answered)) ∙ a) in (f .0, rw (f .1)))
+    (λ b. ap (λ (x : Started). x .call) (refused b))
+    (λ b. m .handed-on ∙ ap (λ (x : Started). x .state) (refused b))
+  where
+    refused : not (setupWithin q) ≡ true → r ≡ record { call = call.Refused 10; state = emptyReceiver }
+    refused b = m .answered ∙ setup-refuses q (not-true (setupWithin q) b)
+
+pub cutter-refuses-all : CutterRefuses
+unfolding cutterAnswer cutterBuffer
+cutter-refuses-all g octets u c buffer r left m = one-row 23 (not written) (λ k. (k ≡ 23) × (r ≡ cutting.Refused)) (left ≡ buffer)
+    (λ j a. (a .0, turned written (sym (m .answered) ∙ a .1)))
+    (λ b. (refl, m .answered ∙ rw (not-true written b)))
+    (λ b. m .written ∙ rw (not-true written b))
+  where
+    written : Bool
+    written = cuts g octets u c (length buffer)
+
+    turned : (b : Bool) → cond {A = Cutting} b (cutting.Written (headerSize + pieceLength (length octets) u c)) cutting.Refused ≡ cutting.Refused → not b ≡ true
+    turned true e = let z : _≡_ {A = ℕ} 0 1 = cc in absurd (omega (arith, z))
+    turned false e = refl
