@@ -6,8 +6,9 @@
 use Prim.Native.Nat.{ℕ, _<_}
 use mathlib.Core.Path.{_≡_}
 use mathlib.Core.Logic.{_≢_}
-use mathlib.Core.Bool.{true, not, cond}
+use mathlib.Core.Bool.{true, false, not, _&&_}
 use mathlib.Core.List.{List, [], _∷_, map, List·Memᴰ}
+use lib.Dec.{eqb}
 use lib.ListN.{length, take}
 use Rattle.ring.specs.declared.Verdict.{Verdict}
 use Rattle.header.specs.declared.Given.{Given}
@@ -18,7 +19,7 @@ use Rattle.cut.specs.Cutter.{cuts}
 use Rattle.cut.specs.ReadLaws.{Words}
 use Rattle.state.specs.declared.Address.{Address}
 use Rattle.state.specs.Limits.{addressAt}
-use Rattle.state.specs.State.{senderAt, emptyReceiver}
+use Rattle.state.specs.State.{noLast, senderAt, emptyReceiver}
 use Rattle.state.specs.Table.{source}
 use Rattle.rules.specs.declared.answers.Call.the-variants as call
 use Rattle.rules.specs.declared.answers.Missing.the-variants as missing
@@ -29,7 +30,8 @@ use Rattle.rules.specs.Accepted.{acceptedWith}
 use Rattle.rules.specs.Alive.{aliveRows}
 use Rattle.rules.specs.AlivePast.{AliveBy}
 use Rattle.rules.specs.Clock.{clockRows}
-use Rattle.rules.specs.Delivery.{Sent, PieceOf, May, Between, OnlyPieces, verdictFor, Arrives, Once}
+use Rattle.rules.specs.CutPieces.{sentBy}
+use Rattle.rules.specs.Delivery.{Sent, Numbered, PieceOf, May, Between, OnlyPieces, verdictFor, Arrives, Once}
 use Rattle.rules.specs.First.{Row, row}
 use Rattle.rules.specs.FirstLaws as rows
 use Rattle.rules.specs.Join.{Joined}
@@ -85,6 +87,31 @@ abbrev pub NeverNine : Type 0
 NeverNine = AfterPast (λ w es rs v. (e : Event) (r : Said e) (u : World) → Meets v e r u → ¬ (Refused e r 9) × ¬ (Refused e r 11))
 
 -- ---- demand 2
+
+-- A PDU that our cutter wrote: as many octets as it answered, from the beginning of the buffer.
+pub record Written (g : Given) (octets : List ℕ) (u c : ℕ) (packet : List ℕ) : Type 0 where
+  pub buffer : List ℕ
+  pub left : List ℕ
+  pub cut : CutterMeets g octets u c buffer (cutting.Written (length packet)) left
+  pub begins : packet ≡ take (length packet) left
+
+-- The pieces of a message in any order: first these, some of them more than once, and then the last missing one.
+pub record AnyOrder (m : Sent) (order : List ℕ) (last : ℕ) : Type 0 where
+  pub pieces : (c : ℕ) → List·Memᴰ c order → Numbered m c
+  pub is-piece : Numbered m last
+  pub missing : ¬ (List·Memᴰ last order)
+  pub others : (c : ℕ) → Numbered m c → c ≢ last → List·Memᴰ c order
+
+-- "Cut by our sender and joined by our receiver, a message of 0 to 16,384 octets comes back the same": with any header values and any u that the
+-- cutter takes, at a receiver set up with that sender. `Words` says that the values are of their types.
+abbrev pub ComesBack : Type 0
+ComesBack = (q : Setup) (r : Started) (w : World) → SetupMeets q r w
+    → (g : Given) → Words g → (i : ℕ) → i < w .state .count → addressAt (w .state .senders) i ≡ sentBy g [] 0 .address → eqb (g .mode) 1 && not (w .state .test) ≡ false
+    → (octets : List ℕ) (u : ℕ) (packets : ℕ → List ℕ) → ((c : ℕ) → Numbered (sentBy g octets u) c → Written g octets u c (packets c))
+    → (order : List ℕ) (last : ℕ) → AnyOrder (sentBy g octets u) order last
+    → let es = map (λ c. message (packets c)) order in
+    (rs : Answers es) (v : World) → Course w es rs v → (a : Said (message (packets last))) (x : World) → Meets v (message (packets last)) a x
+    → (a .0 .outcome ≡ outcome.Delivered (verdictFor (w .state .n1) (sentBy g octets u) noLast)) × (a .1 ≡ octets)
 
 -- "the judging of alive signals": who is alive after a past is what the past alone says.
 abbrev pub Alive : Type 0

@@ -1,5 +1,5 @@
 -- The demands, proved: every course is the one that `rules` speaks of, and of that one `rules` has proved them. Assumes nothing.
-use Prim.Native.Nat.{ℕ, _+_, _<_}
+use Prim.Native.Nat.{ℕ, _+_, _*_, _<_}
 use mathlib.Core.Path.{_≡_, refl, sym, ap, subst, _∙_}
 use mathlib.Core.Logic.{_≢_, _⊎_, inl, inr, ⊎-elim}
 use mathlib.Core.Bool.{Bool, true, false, not, cond}
@@ -10,7 +10,6 @@ use lib.ListN.{length}
 use borrow.Author.Tests.{eq-eqb, not-true}
 use Rattle.octets.specs.Split.{never-both}
 use Rattle.ring.specs.declared.Verdict.{Verdict}
-use Rattle.header.specs.declared.Given.{Given}
 use Rattle.header.specs.Head.{headOf}
 use Rattle.cut.specs.declared.cutter.Cutting.{Cutting}
 use Rattle.cut.specs.declared.cutter.Cutting.the-variants as cutting
@@ -24,30 +23,30 @@ use Rattle.state.specs.Table.{source}
 use Rattle.rules.specs.declared.answers.Answer.{Answer}
 use Rattle.rules.specs.declared.answers.Call.the-variants as call
 use Rattle.rules.specs.declared.answers.Noted.{Noted}
+use Rattle.rules.specs.declared.answers.Outcome.{Outcome}
 use Rattle.rules.specs.declared.answers.Outcome.the-variants as outcome
 use Rattle.rules.specs.declared.answers.Setup.{Setup}
 use Rattle.rules.specs.declared.answers.Started.{Started}
 use Rattle.rules.specs.declared.answers.Ticked.{Ticked}
-use Rattle.rules.specs.Accepted.{acceptedBy, acceptedSince, acceptedWith}
+use Rattle.rules.specs.Accepted.{answerTo, partTo, acceptedBy, acceptedSince, acceptedWith}
 use Rattle.rules.specs.AlivePast.{AliveBy}
 use Rattle.rules.specs.AlivePastLaws.{alive-after, after-alive}
 use Rattle.rules.specs.Admit.{senderRows}
 use Rattle.rules.specs.Alive.{aliveRows}
 use Rattle.rules.specs.Clock.{notTicked}
-use Rattle.rules.specs.Delivery.{Sent, PieceOf, May, Between, OnlyPieces, verdictFor, Arrives}
+use Rattle.rules.specs.Delivery.{Sent, PieceOf, May, Between, OnlyPieces, verdictFor, Arrives, Once}
 use Rattle.rules.specs.DeliveryLaws.{arrives-only}
 use Rattle.rules.specs.Exactly.{message-refuses, message-given, alive-refuses, alive-given, clock-refuses, clock-given, question-refuses, question-given, setup-refuses, setup-given}
 use Rattle.rules.specs.First.{Row, row}
-use Rattle.rules.specs.FirstLaws as rows
-use Rattle.rules.specs.FirstLaws.{given-above, above}
+use Rattle.rules.specs.FirstLaws.{Given, above, given-above}
 use Rattle.rules.specs.Join.{Joined}
-use Rattle.rules.specs.Message.{messageRows, refused}
+use Rattle.rules.specs.Message.{area, messageRows, refused}
 use Rattle.rules.specs.Past.{World, Event, message, alive, clock, question, step, after, Start}
 use Rattle.rules.specs.PastLaws.{Sound, past-sound}
 use Rattle.rules.specs.SafeLaws.{safe}
 use Rattle.rules.specs.Setup.{setupWithin, setupAnswer}
 use Rattle.promises.specs.Course.{Said, Meets, Answers, Course, SetupMeets, CutterMeets, said, answers}
-use Rattle.promises.specs.CourseLaws.{one-call, one-course, course-start}
+use Rattle.promises.specs.CourseLaws.{one-call, one-course, next-call, course-start, course-sound}
 use Rattle.promises.specs.Demands.{Refused, rowsOf, Refuses, CallsRefuse, SetupRefuses, CutterRefuses, NeverNine, Alive, Delivery, Safety, acceptedOf, acceptedIn}
 
 -- ---- demand 1
@@ -83,8 +82,8 @@ calls-refuse w e r v m =
 one-row : (k : ℕ) (b : Bool) (answered : ℕ → Type 0) (unchanged : Type 0) → ((j : ℕ) → answered j → (j ≡ k) × (b ≡ true)) → (b ≡ true → answered k)
     → (b ≡ true → unchanged) → Refuses (row k b ∷ []) answered unchanged
 one-row k b answered unchanged only must left = record {
-  only-if = λ j a. unfold rows.Given in inl (only j a .1, sym (only j a .0));
-  if-first = λ j g. unfold rows.Given in from-row g;
+  only-if = λ j a. unfold Given in inl (only j a .1, sym (only j a .0));
+  if-first = λ j g. unfold Given in from-row g;
   nothing = λ j a. left (only j a .1);
 }
   where
@@ -114,3 +113,87 @@ cutter-refuses-all g octets u c buffer r left m = one-row 23 (not written) (λ k
     turned : (b : Bool) → cond {A = Cutting} b (cutting.Written (headerSize + pieceLength (length octets) u c)) cutting.Refused ≡ cutting.Refused → not b ≡ true
     turned true e = let z : _≡_ {A = ℕ} 0 1 = cc in absurd (omega (arith, z))
     turned false e = refl
+
+-- A number is not given where its row does not apply and the others' numbers are above it,
+not-given : (k : ℕ) (b : Bool) (rs : List Row) → b ≡ false → above k rs ≡ true → ¬ (Given (row k b ∷ rs) k)
+unfolding Given
+not-given k b rs e a (inl g) = never-both (g .0) e
+not-given k b rs e a (inr g) = omega (arith, given-above k rs k a (g .1))
+
+-- nor where another's row comes first and it is not given behind.
+not-behind : (j k : ℕ) (b : Bool) (rs : List Row) → k ≢ j → ¬ (Given rs j) → ¬ (Given (row k b ∷ rs) j)
+unfolding Given
+not-behind j k b rs ne none (inl g) = ne (g .1)
+not-behind j k b rs ne none (inr g) = none (g .1)
+
+not-above : (j : ℕ) (rs : List Row) → above j rs ≡ true → ¬ (Given rs j)
+not-above j rs a g = omega (arith, given-above j rs j a g)
+
+-- A valid state meets no 9, and storage of the right length no 11.
+never-given : (w : World) → Sound w → (e : Event) → ¬ (Given (rowsOf w e) 9) × ¬ (Given (rowsOf w e) 11)
+unfolding messageRows senderRows aliveRows above
+never-given w s (message packet) = (
+  not-given 9 (not (valid (w .state))) _ (rw (s .is-valid)) refl,
+  not-behind 11 9 (not (valid (w .state))) _ (λ z. omega (arith, z))
+      (not-given 11 (not (eqb (length (w .storage)) (w .state .count * area))) _ (rw (eq-eqb (length (w .storage)) (w .state .count * area) (s .room))) refl),
+)
+never-given w s (alive packet) = (not-given 9 (not (valid (w .state))) _ (rw (s .is-valid)) refl, not-behind 11 9 _ _ (λ z. omega (arith, z)) (not-above 11 _ refl))
+never-given w s (clock now) = (not-given 9 (not (valid (w .state))) _ (rw (s .is-valid)) refl, not-behind 11 9 _ _ (λ z. omega (arith, z)) (not-above 11 _ refl))
+never-given w s question = (not-given 9 (not (valid (w .state))) _ (rw (s .is-valid)) refl, not-behind 11 9 _ _ (λ z. omega (arith, z)) (not-above 11 _ refl))
+
+pub never-nine : NeverNine
+never-nine q r w m es rs v c e a u meets =
+    let never = never-given v (course-sound q r w m es rs v c) e in
+    let only = calls-refuse v e a u meets .only-if in
+    (λ n. never .0 (only 9 n), λ n. never .1 (only 11 n))
+
+-- ---- demand 2
+
+pub alive-is : Alive
+alive-is q r w m es rs v c i here =
+    let start = course-start q r w m in
+    let is = one-course w es rs v c .1 in
+    subst (λ (x : World). (senderAt (x .state) i .alive ≡ true → AliveBy (addressAt (w .state .senders) i) es) × (AliveBy (addressAt (w .state .senders) i) es → senderAt (x .state) i .alive ≡ true))
+    (sym is) (alive-after w start es i here, after-alive w start es i here)
+
+-- ---- demand 3
+
+pub delivers : Delivery
+unfolding said
+delivers q r w m past rs v c sent i may es ts u d between k packet is a x meets =
+    let start = course-start q r w m in
+    let past-is = one-course w past rs v c .1 in
+    let at-past = arrives-only w start past sent i (subst (May sent i past) past-is may) es (subst (λ (y : World). Between (OnlyPieces sent) sent i y es) past-is between) k packet is in
+    let at-v = subst (λ (y : World). Promised y (answerTo (after y es) packet .outcome) (partTo (after y es) packet)) (sym past-is) at-past in
+    let said-is = next-call v es ts u d (message packet) a x meets .0 in
+    subst (λ (y : Said (message packet)). Promised v (y .0 .outcome) (y .1)) (sym said-is) at-v
+  where
+    Promised : World → Outcome → List ℕ → Type 0
+    Promised y out part = Arrives sent (verdictFor (y .state .n1) sent (senderAt (y .state) i .last)) es k out part × (sent .version ≢ 0 → Once sent es out)
+
+accepted-of : (a : Address) (so-far : List (List ℕ)) (w : World) (e : Event) → acceptedOf a so-far e (said w e) ≡ acceptedBy a so-far w e
+unfolding said
+accepted-of a so-far w (message packet) = refl
+accepted-of a so-far w (alive packet) = refl
+accepted-of a so-far w (clock now) = refl
+accepted-of a so-far w question = refl
+
+accepted-in : (a : Address) (so-far : List (List ℕ)) (w : World) (es : List Event) → acceptedIn a so-far es (answers w es) ≡ acceptedSince a so-far w es
+unfolding acceptedIn acceptedSince answers
+accepted-in a so-far w [] = refl
+accepted-in a so-far w (e ∷ es) = accepted-in a (acceptedOf a so-far e (said w e)) (step w e) es ∙ rw (accepted-of a so-far w e)
+
+pub is-safe : Safety
+unfolding said
+is-safe q r w m es rs v c packet a u meets verdict gave =
+    let start = course-start q r w m in
+    let one = one-course w es rs v c in
+    let said-is = next-call w es rs v c (message packet) a u meets .0 in
+    let gave′ = subst (λ (y : Said (message packet)). y .0 .outcome ≡ outcome.Delivered verdict) said-is gave in
+    let join = safe w start es packet verdict gave′ in
+    subst (λ (y : Said (message packet)). Joined (acceptedWith from (acceptedIn from [] es rs) packet (y .0)) packet (y .1)) (sym said-is)
+    (subst (λ (y : Answers es). Joined (acceptedWith from (acceptedIn from [] es y) packet (said (after w es) (message packet) .0)) packet (said (after w es) (message packet) .1)) (sym (one .0))
+    (rw (accepted-in from [] w es) join))
+  where
+    from : Address
+    from = source (headOf packet)
