@@ -1,7 +1,7 @@
 -- The demands, proved: every course is the one that `rules` speaks of, and of that one `rules` has proved them. Assumes nothing.
-use Prim.Native.Nat.{ℕ, _+_, _*_, _<_}
+use Prim.Native.Nat.{ℕ, _+_, _*_}
 use mathlib.Core.Path.{_≡_, refl, sym, ap, subst, _∙_}
-use mathlib.Core.Logic.{_≢_, _⊎_, inl, inr, ⊎-elim}
+use mathlib.Core.Logic.{_≢_, _⊎_, inl, inr}
 use mathlib.Core.Bool.{Bool, true, false, not, cond}
 use mathlib.Core.List.{List, [], _∷_}
 use native.Mathlib.Omega.{arith}
@@ -9,7 +9,6 @@ use lib.Dec.{eqb}
 use lib.ListN.{length}
 use borrow.Author.Tests.{eq-eqb, not-true}
 use Rattle.octets.specs.Split.{never-both}
-use Rattle.ring.specs.declared.Verdict.{Verdict}
 use Rattle.header.specs.Head.{headOf}
 use Rattle.cut.specs.declared.cutter.Cutting.{Cutting}
 use Rattle.cut.specs.declared.cutter.Cutting.the-variants as cutting
@@ -25,7 +24,6 @@ use Rattle.rules.specs.declared.answers.Call.the-variants as call
 use Rattle.rules.specs.declared.answers.Noted.{Noted}
 use Rattle.rules.specs.declared.answers.Outcome.{Outcome}
 use Rattle.rules.specs.declared.answers.Outcome.the-variants as outcome
-use Rattle.rules.specs.declared.answers.Setup.{Setup}
 use Rattle.rules.specs.declared.answers.Started.{Started}
 use Rattle.rules.specs.declared.answers.Ticked.{Ticked}
 use Rattle.rules.specs.Accepted.{answerTo, partTo, acceptedBy, acceptedSince, acceptedWith}
@@ -34,18 +32,18 @@ use Rattle.rules.specs.AlivePastLaws.{alive-after, after-alive}
 use Rattle.rules.specs.Admit.{senderRows}
 use Rattle.rules.specs.Alive.{aliveRows}
 use Rattle.rules.specs.Clock.{notTicked}
-use Rattle.rules.specs.Delivery.{Sent, PieceOf, May, Between, OnlyPieces, verdictFor, Arrives, Once}
+use Rattle.rules.specs.Delivery.{May, Between, OnlyPieces, verdictFor, Arrives, Once}
 use Rattle.rules.specs.DeliveryLaws.{arrives-only}
 use Rattle.rules.specs.Exactly.{message-refuses, message-given, alive-refuses, alive-given, clock-refuses, clock-given, question-refuses, question-given, setup-refuses, setup-given}
 use Rattle.rules.specs.First.{Row, row}
 use Rattle.rules.specs.FirstLaws.{Given, above, given-above}
 use Rattle.rules.specs.Join.{Joined}
 use Rattle.rules.specs.Message.{area, messageRows, refused}
-use Rattle.rules.specs.Past.{World, Event, message, alive, clock, question, step, after, Start}
-use Rattle.rules.specs.PastLaws.{Sound, past-sound}
+use Rattle.rules.specs.Past.{World, Event, message, alive, clock, question, step, after}
+use Rattle.rules.specs.PastLaws.{Sound}
 use Rattle.rules.specs.SafeLaws.{safe}
-use Rattle.rules.specs.Setup.{setupWithin, setupAnswer}
-use Rattle.promises.specs.Course.{Said, Meets, Answers, Course, SetupMeets, CutterMeets, said, answers}
+use Rattle.rules.specs.Setup.{setupWithin}
+use Rattle.promises.specs.Course.{Said, Answers, said, answers}
 use Rattle.promises.specs.CourseLaws.{one-call, one-course, next-call, course-start, course-sound}
 use Rattle.promises.specs.Demands.{Refused, rowsOf, Refuses, CallsRefuse, SetupRefuses, CutterRefuses, NeverNine, Alive, Delivery, Safety, acceptedOf, acceptedIn}
 

@@ -2,3 +2,4 @@ pub mod Course
 pub mod CourseLaws
 pub mod Demands
 pub mod DemandsLaws
+pub mod ComesBackLaws
