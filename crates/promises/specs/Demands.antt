@@ -1,5 +1,5 @@
 -- The user's three demands, clause by clause, each as a statement about every program whose calls meet the public contracts (Course.antt).
--- The words that they are written in stand in `rules`: Past, Accepted and Join (safety), Delivery, AlivePast. Proved in DemandsLaws.antt.
+-- The words that they are written in stand in `rules`: Past, Accepted and Join (safety), Delivery, AlivePast. Proved in Kept.antt.
 --
 -- Of demand 1, "Nothing is read or written outside what was lent, and every call ends" is what the proof of every function shows, contract or
 -- not; of demand 2, that header, number check and cut are the paper's is shown beside their definitions, in `header`, `ring` and `cut`.
@@ -16,6 +16,7 @@ use Rattle.header.specs.Head.{headOf}
 use Rattle.cut.specs.declared.cutter.Cutting.{Cutting}
 use Rattle.cut.specs.declared.cutter.Cutting.the-variants as cutting
 use Rattle.cut.specs.Cutter.{cuts}
+use Rattle.cut.specs.Edges.{all, edges}
 use Rattle.cut.specs.ReadLaws.{Words}
 use Rattle.state.specs.declared.Address.{Address}
 use Rattle.state.specs.Limits.{addressAt}
@@ -147,3 +148,37 @@ abbrev pub Safety : Type 0
 Safety = AfterPast (λ w es rs v. (packet : List ℕ) (r : Said (message packet)) (u : World) → Meets v (message packet) r u
     → (verdict : Verdict) → r .0 .outcome ≡ outcome.Delivered verdict
     → Joined (acceptedWith (source (headOf packet)) (acceptedIn (source (headOf packet)) [] es rs) packet (r .0)) packet (r .1))
+
+-- ---- uniqueness, and the edges
+
+-- "Uniqueness is itself proved": of two programs, or of one that runs twice, the same calls get the same answers and leave the same world,
+abbrev pub OneCourse : Type 0
+OneCourse = (w : World) (es : List Event) (rs ts : Answers es) (v u : World) → Course w es rs v → Course w es ts u → (rs ≡ ts) × (v ≡ u)
+
+abbrev pub OneStart : Type 0
+OneStart = (q : Setup) (r t : Started) (w u : World) → SetupMeets q r w → SetupMeets q t u → w .storage ≡ u .storage → (r ≡ t) × (w ≡ u)
+
+-- and the same cutting writes the same.
+abbrev pub OneCutting : Type 0
+OneCutting = (g : Given) (m : List ℕ) (u c : ℕ) (buffer : List ℕ) (r t : Cutting) (left right : List ℕ)
+    → CutterMeets g m u c buffer r left → CutterMeets g m u c buffer t right → (r ≡ t) × (left ≡ right)
+
+-- "Proved together as one table with one claim over it (*)"
+abbrev pub EveryEdge : Type 0
+EveryEdge = all edges ≡ true
+
+-- ---- all of it
+
+pub record Demands : Type 0 where
+  pub calls-refuse : CallsRefuse
+  pub setup-refuses : SetupRefuses
+  pub cutter-refuses : CutterRefuses
+  pub never-nine : NeverNine
+  pub comes-back : ComesBack
+  pub alive-is : Alive
+  pub delivers : Delivery
+  pub is-safe : Safety
+  pub one-course : OneCourse
+  pub one-start : OneStart
+  pub one-cutting : OneCutting
+  pub every-edge : EveryEdge

@@ -3,3 +3,4 @@ pub mod CourseLaws
 pub mod Demands
 pub mod DemandsLaws
 pub mod ComesBackLaws
+pub mod Kept
