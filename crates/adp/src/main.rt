@@ -4,15 +4,15 @@
 ghost use mathlib.Core.Path.{_≡_};
 ghost use Prim.Native.Nat.{_≤_};
 ghost use lib.ListN.{length};
-use fields::cutting::HEAD;
-use fields::step::lent;
-use fields::step::turn;
-use fields::step::wanted;
+use fields::HEAD;
 use libc::STDIN_FILENO;
 use libc::STDOUT_FILENO;
 use lines::Line;
 use lines::text_of;
 use state::Receiver;
+use steps::lent;
+use steps::turn;
+use steps::wanted;
 
 fn main() {
     let mut storage = [0u8; 65_536];

@@ -2,9 +2,9 @@
 //
 // No contract can say what is written, so these functions have none: they answer nothing, and nothing is lent to them to write.
 use cut::cutter::cutter;
-use fields::cutting::Kind;
-use fields::cutting::Next;
-use fields::cutting::next_field;
+use fields::Kind;
+use fields::Next;
+use fields::next_field;
 use header::DataField;
 use header::Given;
 use header::Node;
@@ -104,7 +104,7 @@ pub fn field_call(octets: &[u8]) {
         Next::Nothing => line(b'F', &[0, 0, 0, 7]),
         Next::Cut => line(b'F', &[1, 0, 0, 7]),
         Next::Bad => line(b'F', &[2, 0, 0, 7]),
-        Next::Whole { kind, length } => whole_line(kind, fields::cutting::contents(octets, length)),
+        Next::Whole { kind, length } => whole_line(kind, fields::contents(octets, length)),
     }
 }
 

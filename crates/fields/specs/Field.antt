@@ -9,10 +9,10 @@ use Rattle.octets.specs.Run.{run}
 use Rattle.state.specs.declared.Address.{Address}
 use Rattle.rules.specs.declared.answers.Setup.{Setup}
 use Rattle.state.specs.State.{noAddress}
-use Rattle.fields.specs.declared.cutting.Kind.{Kind}
-use Rattle.fields.specs.declared.cutting.Kind.the-variants as kind
-use Rattle.fields.specs.declared.cutting.Next.{Next}
-use Rattle.fields.specs.declared.cutting.Next.the-variants.{Nothing, Cut, Bad, Whole}
+use Rattle.fields.specs.declared.Kind.{Kind}
+use Rattle.fields.specs.declared.Kind.the-variants as kind
+use Rattle.fields.specs.declared.Next.{Next}
+use Rattle.fields.specs.declared.Next.the-variants.{Nothing, Cut, Bad, Whole}
 
 -- "tag octet, two-octet length"
 abbrev pub tagOf : List ℕ → ℕ

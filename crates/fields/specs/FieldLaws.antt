@@ -13,10 +13,10 @@ use Rattle.octets.specs.Number.{number}
 use Rattle.octets.specs.NumberLaws.{number-ext}
 use Rattle.octets.specs.Run.{run}
 use Rattle.octets.specs.Split.{never-both}
-use Rattle.fields.specs.declared.cutting.Kind.{Kind}
-use Rattle.fields.specs.declared.cutting.Kind.the-variants as kind
-use Rattle.fields.specs.declared.cutting.Next.{Next}
-use Rattle.fields.specs.declared.cutting.Next.the-variants.{Nothing, Cut, Bad, Whole}
+use Rattle.fields.specs.declared.Kind.{Kind}
+use Rattle.fields.specs.declared.Kind.the-variants as kind
+use Rattle.fields.specs.declared.Next.{Next}
+use Rattle.fields.specs.declared.Next.the-variants.{Nothing, Cut, Bad, Whole}
 use Rattle.fields.specs.Field.{tagOf, sizeOf, headSize, kindOf, isBad, nextOf, contentsOf}
 
 -- The code has the tag, the length n and the kind k of the field at the front of s.

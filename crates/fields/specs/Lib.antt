@@ -1,3 +1,2 @@
 pub mod Field
 pub mod FieldLaws
-pub mod Step
