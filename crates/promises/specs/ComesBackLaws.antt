@@ -94,7 +94,7 @@ no-repeat-first n1 v s = cond-case (λ (x : Verdict). isRepeat x ≡ false) (eqb
 
 pub comes-back : ComesBack
 unfolding after
-comes-back q r w meets g words i here address admits octets u packets wrote order last any rs v course a x meets-last =
+comes-back q r w meets g words octets u i here address admits packets wrote order last any rs v course a x meets-last =
     let m = sentBy g octets u in
     let start = course-start q r w meets in
     let is = start-sender w start i here in

@@ -107,8 +107,9 @@ pub record AnyOrder (m : Sent) (order : List ℕ) (last : ℕ) : Type 0 where
 -- cutter takes, at a receiver set up with that sender. `Words` says that the values are of their types.
 abbrev pub ComesBack : Type 0
 ComesBack = (q : Setup) (r : Started) (w : World) → SetupMeets q r w
-    → (g : Given) → Words g → (i : ℕ) → i < w .state .count → addressAt (w .state .senders) i ≡ sentBy g [] 0 .address → eqb (g .mode) 1 && not (w .state .test) ≡ false
-    → (octets : List ℕ) (u : ℕ) (packets : ℕ → List ℕ) → ((c : ℕ) → Numbered (sentBy g octets u) c → Written g octets u c (packets c))
+    → (g : Given) → Words g → (octets : List ℕ) (u : ℕ)
+    → (i : ℕ) → i < w .state .count → addressAt (w .state .senders) i ≡ sentBy g octets u .address → eqb (g .mode) 1 && not (w .state .test) ≡ false
+    → (packets : ℕ → List ℕ) → ((c : ℕ) → Numbered (sentBy g octets u) c → Written g octets u c (packets c))
     → (order : List ℕ) (last : ℕ) → AnyOrder (sentBy g octets u) order last
     → let es = map (λ c. message (packets c)) order in
     (rs : Answers es) (v : World) → Course w es rs v → (a : Said (message (packets last))) (x : World) → Meets v (message (packets last)) a x

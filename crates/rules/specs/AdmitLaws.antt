@@ -1,7 +1,7 @@
 -- Laws of admission: what is known where no number of 15 to 20 applies. Assumes nothing.
 use mathlib.Core.Path.{_≡_, refl, sym, _∙_}
 use mathlib.Core.Bool.{Bool, true, false, not, cond, _&&_}
-use Prim.Native.Nat.{ℕ, _≤_}
+use Prim.Native.Nat.{ℕ}
 use native.Mathlib.Omega.{arith}
 use lib.Dec.{eqb}
 use borrow.Author.Tests.{eq-eqb, ne-eqb, eqb-true, not-false}
@@ -9,15 +9,13 @@ use Rattle.octets.specs.Split.{cond-case, never-both}
 use Rattle.ring.specs.Check.{isRepeat}
 use Rattle.header.specs.declared.Head.{Head}
 use Rattle.cut.specs.Possible.{possible}
-use Rattle.cut.specs.PossibleLaws.{possible-facts, possible-most}
 use Rattle.state.specs.declared.Sender.{Sender}
 use Rattle.rules.specs.declared.answers.Admission.{Admission}
 use Rattle.rules.specs.declared.answers.Outcome.{Outcome}
-use Rattle.rules.specs.Admit.{rejoins, sameCut, verdictOf, senderRows, mapAfter, fills, admitted, notAdmitted, admission, refusedNumber}
+use Rattle.rules.specs.Admit.{rejoins, sameCut, verdictOf, senderRows, fills, admitted, notAdmitted, admission, refusedNumber}
 use Rattle.rules.specs.First.{first}
 use Rattle.rules.specs.FirstLaws.{first-none}
-use Rattle.state.specs.Map.{holds, marked}
-use Rattle.state.specs.MapLaws.{marked-adds, holds-zero}
+use Rattle.state.specs.Map.{holds}
 
 -- An admitted PDU has a possible cut, is no repeat, is not older than the open message, has its cut if it belongs to it, and
 -- is a new piece of it.
@@ -46,20 +44,6 @@ admitted-facts test n1 s h e =
       same-cut = λ f. not-false (sameCut (s .message) h) (if-and (rejoins s h) (not (sameCut (s .message) h)) (r19 .0) f);
       new-piece = if-and (rejoins s h) (holds (s .message .map) (h .cut .cbn)) (r20 .0);
     }
-
--- The piece number of a possible cut has a bit in the map.
-pub piece-fits : (h : Head) → possible (h .cut) ≡ true → h .cut .cbn ≤ 64
-piece-fits h e = let f = possible-facts (h .cut) e in omega (arith, possible-most (h .cut) e)
-
--- The map afterwards, by the mark that the code sets.
-pub map-again : (s : Sender) (h : Head) → possible (h .cut) ≡ true → rejoins s h ≡ true → holds (s .message .map) (h .cut .cbn) ≡ false
-    → marked (s .message .map) (h .cut .cbn) ≡ mapAfter s h
-unfolding mapAfter
-map-again s h p r n = marked-adds (s .message .map) (h .cut .cbn) (piece-fits h p) n ∙ rw r
-
-pub map-new : (s : Sender) (h : Head) → possible (h .cut) ≡ true → rejoins s h ≡ false → marked 0 (h .cut .cbn) ≡ mapAfter s h
-unfolding mapAfter
-map-new s h p r = marked-adds 0 (h .cut .cbn) (piece-fits h p) (holds-zero (h .cut .cbn)) ∙ rw r
 
 -- ---- the admission by its number
 

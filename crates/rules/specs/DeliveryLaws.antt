@@ -184,39 +184,41 @@ module _ (g : Settings) (m : Sent) (k : Cuttable m) (admits : eqb (m .mode) 1 &&
           let d-is : own-one .0 ≡ d = sym (piece-number m k (own-one .0) (b .packet) (own-one .1)) ∙ b .number in
           sym (b .same) ∙ piece-octets m k (own-one .0) (b .packet) (own-one .1) ∙ ap (piece (m .octets) (m .u)) d-is
 
-  arrives : (es : List Event) (w : World) → OnItsWay (λ d. Came m d es) w → (c : ℕ) (p : List ℕ) → PieceOf m c p
-      → Arrives m (verdictFor (g .n1) m last) es c (answerTo w p .outcome) (partTo w p) × (m .version ≢ 0 → Once m es (answerTo w p .outcome))
-  arrives es w o c p is = (
-    record {
-      delivered = λ none rest. (gave none rest, octets none rest);
-      stored = λ none d numbered ne missing. outcome ∙ phase-more g m k admits last new v₁ C c p is (o .phase) none d numbered ne missing;
-      held = λ came d numbered missing. outcome ∙ phase-held g m k admits last new v₁ C c p is (o .phase) came d numbered missing;
-    },
-    λ some all. outcome ∙ phase-once g m k admits last new v₁ C c p is one some (o .phase) all,
-  )
-    where
-      C : ℕ → Type 0
-      C d = Came m d es
+  module _ (es : List Event) (w : World) (o : OnItsWay (λ d. Came m d es) w) (c : ℕ) (p : List ℕ) (is : PieceOf m c p) where
+    abbrev here : View
+    here = view w i
 
-      v₁ : View
-      v₁ = view w i
+    abbrev Before : ℕ → Type 0
+    Before d = Came m d es
 
-      outcome : answerTo w p .outcome ≡ outcomeView g (view w i) p
-      outcome = registered-outcome g (m .address) i w (o .registered) p (is .from)
+    outcome-is : answerTo w p .outcome ≡ outcomeView g here p
+    outcome-is = registered-outcome g (m .address) i w (o .registered) p (is .from)
 
-      gave : (Came m c es → ⊥) → ((d : ℕ) → Numbered m d → d ≢ c → Came m d es) → answerTo w p .outcome ≡ Delivered (verdictFor (g .n1) m last)
-      gave none rest = outcome ∙ phase-last g m k admits last new (view w i) (λ d. Came m d es) c p is (o .phase) none rest
+    gave : ¬ (Before c) → ((d : ℕ) → Numbered m d → d ≢ c → Before d) → answerTo w p .outcome ≡ Delivered (verdictFor (g .n1) m last)
+    gave none rest = outcome-is ∙ phase-last g m k admits last new here Before c p is (o .phase) none rest
 
-      octets : (Came m c es → ⊥) → ((d : ℕ) → Numbered m d → d ≢ c → Came m d es) → partTo w p ≡ m .octets
-      octets none rest = same-octets _ c p (partTo w p) is own-all
-          (joined-part g (m .address) i w (o .registered) (o .packets) (o .inv) p (is .from) (verdictFor (g .n1) m last) (gave none rest))
-        where
-          own-all : (q : List ℕ) → List·Memᴰ q (p ∷ cond (rejoins (view w i .sender) (headOf p)) (o .packets) []) → Own q
-          own-all q among = ⊎-elim
-              (λ (e : q ≡ p) _ _. (c, subst (PieceOf m c) (sym e) is))
-              (λ (rest : List·Memᴰ q (cond (rejoins (view w i .sender) (headOf p)) (o .packets) [])).
-              cond-case (λ (x : List (List ℕ)). List·Memᴰ q x → Own q) (rejoins (view w i .sender) (headOf p)) (o .packets) [] (λ _. o .own q) (λ _ nothing. absurd (List·Memᴰ·not-nil nothing)) rest)
-              (List·Memᴰ·cases-cons among)
+    -- All packets that the message was joined from are its own.
+    own-all : (q : List ℕ) → List·Memᴰ q (p ∷ cond (rejoins (here .sender) (headOf p)) (o .packets) []) → Own q
+    own-all q among = ⊎-elim
+        (λ (e : q ≡ p) _ _. (c, subst (PieceOf m c) (sym e) is))
+        (λ (rest : List·Memᴰ q (cond (rejoins (here .sender) (headOf p)) (o .packets) [])).
+        cond-case (λ (x : List (List ℕ)). List·Memᴰ q x → Own q) (rejoins (here .sender) (headOf p)) (o .packets) []
+        (λ _. o .own q) (λ _ nothing. absurd (List·Memᴰ·not-nil nothing)) rest)
+        (List·Memᴰ·cases-cons among)
+
+    handed : ¬ (Before c) → ((d : ℕ) → Numbered m d → d ≢ c → Before d) → partTo w p ≡ m .octets
+    handed none rest = same-octets _ c p (partTo w p) is own-all
+        (joined-part g (m .address) i w (o .registered) (o .packets) (o .inv) p (is .from) (verdictFor (g .n1) m last) (gave none rest))
+
+    arrives : Arrives m (verdictFor (g .n1) m last) es c (answerTo w p .outcome) (partTo w p) × (m .version ≢ 0 → Once m es (answerTo w p .outcome))
+    arrives = (
+      record {
+        delivered = λ none rest. (gave none rest, handed none rest);
+        stored = λ none d numbered ne missing. outcome-is ∙ phase-more g m k admits last new here Before c p is (o .phase) none d numbered ne missing;
+        held = λ came d numbered missing. outcome-is ∙ phase-held g m k admits last new here Before c p is (o .phase) came d numbered missing;
+      },
+      λ some all. outcome-is ∙ phase-once g m k admits last new here Before c p is one some (o .phase) all,
+    )
 
 -- ---- any past
 

@@ -1,9 +1,32 @@
 -- The piece of an admitted PDU is marked. Assumes nothing.
-use mathlib.Core.Path.{sym, _∙_}
-use Rattle.rules.specs.AdmitLaws.{map-again, map-new}
+use Prim.Native.Nat.{_≤_}
+use mathlib.Core.Path.{_≡_, sym, _∙_}
+use mathlib.Core.Bool.{true, false}
+use native.Mathlib.Omega.{arith}
 use borrow.Author.Needs.{needs}
+use Rattle.header.specs.declared.Head.{Head}
+use Rattle.cut.specs.Possible.{possible}
+use Rattle.cut.specs.PossibleLaws.{possible-facts, possible-most}
+use Rattle.state.specs.declared.Sender.{Sender}
+use Rattle.state.specs.Map.{holds, marked}
+use Rattle.state.specs.MapLaws.{marked-adds, holds-zero}
+use Rattle.rules.specs.Admit.{rejoins, mapAfter}
 use Rattle.sender.proofs.map_after.Statement.{statement}
 use Rattle.sender.proofs.map_after.Tie as tie
+
+-- The piece number of a possible cut has a bit in the map.
+piece-fits : (h : Head) → possible (h .cut) ≡ true → h .cut .cbn ≤ 64
+piece-fits h e = let f = possible-facts (h .cut) e in omega (arith, possible-most (h .cut) e)
+
+-- The map afterwards, by the mark that the code sets, where the PDU joins the open message and where it opens one.
+map-again : (s : Sender) (h : Head) → possible (h .cut) ≡ true → rejoins s h ≡ true → holds (s .message .map) (h .cut .cbn) ≡ false
+    → marked (s .message .map) (h .cut .cbn) ≡ mapAfter s h
+unfolding mapAfter
+map-again s h p r n = marked-adds (s .message .map) (h .cut .cbn) (piece-fits h p) n ∙ rw r
+
+map-new : (s : Sender) (h : Head) → possible (h .cut) ≡ true → rejoins s h ≡ false → marked 0 (h .cut .cbn) ≡ mapAfter s h
+unfolding mapAfter
+map-new s h p r = marked-adds 0 (h .cut .cbn) (piece-fits h p) (holds-zero (h .cut .cbn)) ∙ rw r
 
 rejoins-requires : tie.Need-rejoins-requires
 rejoins-requires c κs = search needs
