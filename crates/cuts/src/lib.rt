@@ -1,7 +1,7 @@
 // The calls of docs/EDGES.md that know no state, each with its lines: the cutter, the part that is handed over, the next field.
 //
 // No contract can say what is written, so these functions have none: they answer nothing, and nothing is lent to them to write.
-use cut::cutter::cutter;
+use cutter::cutter;
 use fields::Kind;
 use fields::Next;
 use fields::next_field;

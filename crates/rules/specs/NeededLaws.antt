@@ -20,7 +20,7 @@ use Rattle.header.specs.Codes.{codeOf}
 use Rattle.header.specs.Head.{header, headOf, isFixed}
 use Rattle.header.specs.Layout.{layout, tabulate, octetOf}
 use Rattle.header.specs.Places.{headerSize}
-use Rattle.cut.specs.Cutter.{cutFor, pdu}
+use Rattle.cutter.specs.Cutter.{cutFor, pdu}
 use Rattle.cut.specs.Pieces.{mostOctets, pieces, pieceLength, piece}
 use Rattle.cut.specs.Possible.{unit, isUnit, frontPossible, lastPossible, severalPossible, possible}
 use Rattle.state.specs.declared.Address.{Address}

@@ -19,8 +19,8 @@ use Rattle.header.specs.declared.Head.{Head}
 use Rattle.header.specs.Codes.{isUser, isMode, isPri}
 use Rattle.header.specs.Head.{headOf, isFixed}
 use Rattle.header.specs.Places.{headerSize}
-use Rattle.cut.specs.Cutter.{cutFor}
-use Rattle.cut.specs.CutterLaws.{Within, length-piece, unit-same, cut-possible, cut-same}
+use Rattle.cutter.specs.Cutter.{cutFor}
+use Rattle.cutter.specs.CutterLaws.{Within, length-piece, unit-same, cut-possible, cut-same}
 use Rattle.cut.specs.Pieces.{mostOctets, leastUnit, mostUnit, pieces, piece}
 use Rattle.cut.specs.PiecesLaws.{pieces-one, pieces-some}
 use Rattle.cut.specs.Possible.{possible, messageLength, ownLength, unit, isUnit}

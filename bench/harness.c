@@ -1,0 +1,216 @@
+/* Prepares a night's packets, and has one side run through them:   harness NIGHT ours|twin|none|both ROUNDS
+ * `none` only prepares, so that its count can be taken off. `both` compares what the two sides answered and wrote, and fails where they
+ * differ. It prints how many packets ROUNDS rounds have, and their octets.   harness list   prints the nights. */
+#include "twin.h"
+
+#include <stdbool.h>
+#include <stdio.h>
+#include <stdlib.h>
+#include <string.h>
+
+enum { V_SEQ = 16, SEQ = 20, NODE = 10, TCD = 40, MODE = 52, CBN = 56, BSIZE = 58, FUI = 60 };
+enum { MODE_ONLINE = 0, N1 = 8, T = 1000, MOST_ROUNDS = 4096 };
+
+/* the packets of a night, one behind the other */
+static uint8_t *packets;
+static uint16_t *sizes;
+static size_t octets, count;
+static uint8_t content[AREA], pdus[65][LONGEST];
+static uint8_t ours_storage[PLACES * AREA], twin_storage[PLACES * AREA];
+
+struct night {
+    const char *name;
+    enum { JOIN, REFUSED, MIXED, CUT } kind;
+    /* of a join and a cutting: n octets in pieces of u */
+    uint16_t n, u;
+    uint8_t senders;
+    bool reversed;
+    /* of a refusal, its number */
+    uint8_t number;
+};
+
+static const struct night nights[] = {
+    {"12 pieces, in order, 1 sender", JOIN, 16384, 1396, 1, false, 0},
+    {"12 pieces, reversed, 1 sender", JOIN, 16384, 1396, 1, true, 0},
+    {"64 pieces, in order, 1 sender", JOIN, 16384, 256, 1, false, 0},
+    {"64 pieces, reversed, 1 sender", JOIN, 16384, 256, 1, true, 0},
+    {"12 pieces, in order, 16 senders", JOIN, 16384, 1396, 16, false, 0},
+    {"12 pieces, reversed, 16 senders", JOIN, 16384, 1396, 16, true, 0},
+    {"64 pieces, in order, 16 senders", JOIN, 16384, 256, 16, false, 0},
+    {"64 pieces, reversed, 16 senders", JOIN, 16384, 256, 16, true, 0},
+    {"1 piece of 1396, 1 sender", JOIN, 1396, 1396, 1, false, 0},
+    {"1 piece of 1396, 16 senders", JOIN, 1396, 1396, 16, false, 0},
+    {"1 piece of 16, 1 sender", JOIN, 16, 1396, 1, false, 0},
+    {"refused with 11, 1 sender", REFUSED, 1396, 1396, 1, false, 11},
+    {"refused with 12, 1 sender", REFUSED, 1396, 1396, 1, false, 12},
+    {"refused with 12, 16 senders", REFUSED, 1396, 1396, 16, false, 12},
+    {"refused with 13, 1 sender", REFUSED, 1396, 1396, 1, false, 13},
+    {"refused with 14, 1 sender", REFUSED, 1396, 1396, 1, false, 14},
+    {"refused with 14, 16 senders", REFUSED, 1396, 1396, 16, false, 14},
+    {"refused with 15, 1 sender", REFUSED, 1396, 1396, 1, false, 15},
+    {"refused with 16, 1 sender", REFUSED, 1396, 1396, 1, false, 16},
+    {"refused with 17, 1 sender", REFUSED, 1396, 1396, 1, false, 17},
+    {"refused with 18, 1 sender", REFUSED, 2792, 1396, 1, false, 18},
+    {"refused with 19, 1 sender", REFUSED, 2792, 1396, 1, false, 19},
+    {"refused with 20, 1 sender", REFUSED, 2792, 1396, 1, false, 20},
+    {"a mixture, 4 senders", MIXED, 2792, 1396, 4, false, 0},
+    {"cut into 12 pieces", CUT, 16384, 1396, 1, false, 0},
+    {"cut into 64 pieces", CUT, 16384, 256, 1, false, 0},
+    {"cut into 1 piece of 1396", CUT, 1396, 1396, 1, false, 0},
+    {"cut into 1 piece of 16", CUT, 16, 1396, 1, false, 0},
+    {"cutting refused with 23", CUT, 16384, 1397, 1, false, 23},
+};
+
+static void fail(const char *what, const char *which) {
+    fprintf(stderr, "bench: %s: %s\n", which, what);
+    exit(1);
+}
+
+static unsigned pieces(const struct night *k) { return k->n <= k->u ? 1 : (k->n - 1u) / k->u + 1u; }
+
+/* ---- packets */
+
+/* The pieces of the message, each once: what differs from round to round is then only written over. */
+static void cut_all(const struct night *k) {
+    for (unsigned c = 1; c <= pieces(k); c++) twin_cuts(1, content, k->n, k->u, (uint8_t)c, pdus[c], LONGEST);
+}
+
+/* Puts piece c of the message with this number from this node behind the others, and hands it back to be changed. */
+static uint8_t *put(const struct night *k, unsigned node, uint32_t number, unsigned c) {
+    uint8_t *packet = packets + octets;
+    size_t own = c < pieces(k) ? k->u : k->n - (c - 1) * (size_t)k->u;
+    memcpy(packet, pdus[c], HEADER + own);
+    packet[NODE + 1] = (uint8_t)node;
+    packet[SEQ + 2] = (uint8_t)(number >> 8);
+    packet[SEQ + 3] = (uint8_t)number;
+    octets += HEADER + own;
+    sizes[count++] = (uint16_t)(HEADER + own);
+    return packet;
+}
+
+/* A round of joins: a message from every sender, their pieces in turn. */
+static void join_round(const struct night *k, unsigned round) {
+    unsigned t = pieces(k);
+    for (unsigned i = 1; i <= t; i++)
+        for (unsigned node = 1; node <= k->senders; node++) put(k, node, round + 1, k->reversed ? t + 1 - i : i);
+}
+
+/* One packet that is refused. What the refusal needs comes first, once. */
+static void refused_round(const struct night *k, unsigned round) {
+    unsigned node = k->senders;
+    if (round == 0 && k->number >= 17) put(k, node, 9, 1);
+    if (k->number == 14) node = PLACES + 1;
+    uint8_t *packet = put(k, node, k->number == 18 ? 8 : 9, 1);
+    if (k->number == 12) packet[BSIZE + 1] ^= 1;
+    if (k->number == 13) packet[FUI + 3] = 1;
+    if (k->number == 15) packet[MODE + 1] = 1;
+    if (k->number == 16) packet[CBN] = 2;
+    if (k->number == 19) packet[TCD + 1] = 2;
+}
+
+/* A number below `below`, the same in every run. */
+static unsigned chance(unsigned below) {
+    static uint32_t seed = 1;
+    seed = seed * 1664525u + 1013904223u;
+    return (seed >> 16) % below;
+}
+
+/* Packets of which most are refused for one reason or another: pieces in any order, and now and then a header octet or the length changed. */
+static void mixed_round(const struct night *k, unsigned round) {
+    for (unsigned i = 0; i < 16; i++) {
+        uint8_t *packet = put(k, 1 + chance(k->senders), 1 + round / 2 + chance(3), 1 + chance(pieces(k)));
+        packet[V_SEQ + 3] = (uint8_t)(chance(16) == 0 ? chance(3) : 1);
+        if (chance(4) == 0) packet[chance(HEADER)] ^= (uint8_t)(1u << chance(8));
+        if (chance(16) == 0) {
+            octets--;
+            sizes[count - 1]--;
+        }
+    }
+}
+
+static void prepare(const struct night *k, unsigned rounds) {
+    size_t most = (size_t)(rounds + 1) * PLACES * pieces(k);
+    packets = malloc(most * LONGEST);
+    sizes = malloc(most * sizeof *sizes);
+    if (packets == NULL || sizes == NULL) fail("no memory", k->name);
+    for (size_t i = 0; i < sizeof content; i++) content[i] = (uint8_t)(i * 7 + i / 251);
+    if (k->kind == CUT) return;
+    cut_all(k);
+    for (unsigned round = 0; round < rounds; round++) {
+        if (k->kind == JOIN) join_round(k, round);
+        if (k->kind == REFUSED) refused_round(k, round);
+        if (k->kind == MIXED) mixed_round(k, round);
+    }
+}
+
+/* ---- the two sides */
+
+static uint64_t run_night(const struct night *k, night_call *call, uint8_t *storage) {
+    size_t room = (size_t)k->senders * AREA - (k->number == 11);
+    return call(MODE_ONLINE, N1, T, k->senders, packets, octets, sizes, count, storage, room);
+}
+
+static uint64_t run_cuts(const struct night *k, cuts_call *call, uint8_t *buffer, unsigned rounds) {
+    uint64_t sum = 0;
+    for (unsigned round = 0; round < rounds; round++) sum += call(round + 1, content, k->n, k->u, (uint8_t)pieces(k), buffer, LONGEST);
+    return sum;
+}
+
+static uint64_t run(const struct night *k, bool ours, uint8_t *storage, unsigned rounds) {
+    if (k->kind == CUT) return run_cuts(k, ours ? adp_cuts : twin_cuts, storage, rounds);
+    return run_night(k, ours ? adp_night : twin_night, storage);
+}
+
+/* Each piece by itself: the last call of a round alone would show only the last one. */
+static void compare_cuts(const struct night *k) {
+    for (unsigned c = 0; c <= pieces(k) + 1; c++) {
+        uint64_t a = adp_cuts(c + 1, content, k->n, k->u, (uint8_t)c, ours_storage, LONGEST);
+        uint64_t b = twin_cuts(c + 1, content, k->n, k->u, (uint8_t)c, twin_storage, LONGEST);
+        if (a != b || memcmp(ours_storage, twin_storage, sizeof ours_storage) != 0) fail("the two sides cut differently", k->name);
+    }
+}
+
+/* What a night must come to besides: that both sides refuse all is no comparison. */
+static void expect(const struct night *k, uint64_t sum, unsigned rounds) {
+    uint64_t join = 0, t = pieces(k);
+    for (uint64_t held = 1; held < t; held++) join += held * 256;
+    if (k->kind == JOIN && sum != k->senders * (rounds * (join + k->n) + 1 + (rounds - 1) * 2ull)) fail("not every message was joined", k->name);
+    if (k->kind == JOIN && t > 1)
+        for (unsigned i = 0; i < k->senders; i++)
+            if (memcmp(ours_storage + (size_t)i * AREA, content, k->n) != 0) fail("a message was joined wrongly", k->name);
+    if (k->kind == REFUSED && k->number < 17 && sum != (uint64_t)k->number * rounds) fail("not every packet was refused with its number", k->name);
+    if (k->kind == REFUSED && k->number == 17 && sum != 17ull * rounds + 1 + k->n) fail("not every repeat was refused", k->name);
+    if (k->kind == REFUSED && k->number > 17 && sum != (uint64_t)k->number * rounds + 256) fail("not every packet was refused with its number", k->name);
+}
+
+static void compare(const struct night *k, unsigned rounds) {
+    uint64_t a = run(k, true, ours_storage, rounds), b = run(k, false, twin_storage, rounds);
+    if (a != b) fail("the two sides answer differently", k->name);
+    if (memcmp(ours_storage, twin_storage, sizeof ours_storage) != 0) fail("the two sides write differently", k->name);
+    expect(k, a, rounds);
+    if (k->kind == CUT) compare_cuts(k);
+}
+
+int main(int argc, char **argv) {
+    size_t all = sizeof nights / sizeof nights[0];
+    if (argc == 2 && strcmp(argv[1], "list") == 0) {
+        for (size_t i = 0; i < all; i++) printf("%zu\t%s\n", i, nights[i].name);
+        return 0;
+    }
+    if (argc != 4) fail("NIGHT ours|twin|none|both ROUNDS are needed", argv[0]);
+    size_t which = strtoul(argv[1], NULL, 10);
+    unsigned rounds = (unsigned)strtoul(argv[3], NULL, 10);
+    if (which >= all || rounds < 1 || rounds > MOST_ROUNDS) fail("no such night, or too many rounds", argv[1]);
+    const struct night *k = &nights[which];
+    prepare(k, rounds);
+    /* volatile: so that the night is run though nothing more is made of its sum */
+    volatile uint64_t sum = 0;
+    if (strcmp(argv[2], "ours") == 0) sum = run(k, true, ours_storage, rounds);
+    if (strcmp(argv[2], "twin") == 0) sum = run(k, false, twin_storage, rounds);
+    if (strcmp(argv[2], "both") == 0) compare(k, rounds);
+    size_t each = k->kind == CUT ? (size_t)pieces(k) * rounds : count;
+    size_t in_all = k->kind == CUT ? each * HEADER + (size_t)k->n * rounds : octets;
+    printf("%zu %zu\n", each, in_all);
+    (void)sum;
+    return 0;
+}

@@ -1,0 +1,311 @@
+/* The same work in plain C, written for speed: the state stays behind a pointer, a sender's record is changed in place, and a PDU's fields are
+ * read where they lie. It makes the same checks, 9 and 11 to 20 and the cutter's 23, in the same order, and gives the same answers. */
+#include "twin.h"
+
+#include <stdbool.h>
+#include <string.h>
+
+#define M 2147483647u
+#define CLOCK_MOST 1099511627776ull
+
+/* where the fields of the header stand */
+enum {
+    H_TYPE = 0, ML = 4, DOMAIN = 8, DATA_FIELD = 9, NODE = 10, DA = 12, V_SEQ = 16, SEQ = 20, M_CTL = 24, INQ_ID = 28, TCD = 40, VER = 42,
+    GTID = 44, MODE = 52, PVER = 54, PRI = 55, CBN = 56, TBN = 57, BSIZE = 58, FUI = 60
+};
+
+struct message {
+    uint32_t version, number;
+    uint64_t map, stamp;
+    uint16_t tcd, n, u;
+    uint8_t tbn;
+};
+
+struct sender {
+    uint8_t field;
+    bool open, alive;
+    uint16_t node;
+    uint32_t last_version, last_number, timeout;
+    uint64_t heard;
+    struct message message;
+};
+
+struct receiver {
+    bool test;
+    uint8_t count;
+    uint16_t n1;
+    uint32_t t;
+    uint64_t clock;
+    struct sender senders[PLACES];
+};
+
+enum verdict { REPEAT = 0, FIRST = 1, NEXT = 2, RESTART = 3, GAP = 4, UNCHECKED = 5 };
+
+/* number: 0 stored, 1 delivered, 9 or more refused; the delivered octets lie at `part` */
+struct answer {
+    uint8_t number, verdict, held;
+    uint32_t skipped, dropped_version, dropped_number;
+    const uint8_t *part;
+    size_t length;
+};
+
+/* what the cut of a PDU says */
+struct cut {
+    uint32_t n, p, u;
+    uint8_t cbn, tbn;
+};
+
+/* ---- numbers, the high octet first */
+
+static inline uint16_t read2(const uint8_t *s) {
+    uint16_t x;
+    memcpy(&x, s, sizeof x);
+    return __builtin_bswap16(x);
+}
+
+static inline uint32_t read4(const uint8_t *s) {
+    uint32_t x;
+    memcpy(&x, s, sizeof x);
+    return __builtin_bswap32(x);
+}
+
+static inline uint64_t read8(const uint8_t *s) {
+    uint64_t x;
+    memcpy(&x, s, sizeof x);
+    return __builtin_bswap64(x);
+}
+
+static inline void write2(uint8_t *s, uint16_t x) {
+    x = __builtin_bswap16(x);
+    memcpy(s, &x, sizeof x);
+}
+
+static inline void write4(uint8_t *s, uint32_t x) {
+    x = __builtin_bswap32(x);
+    memcpy(s, &x, sizeof x);
+}
+
+/* ---- limits */
+
+static inline bool is_number(uint32_t x) { return x - 1 < M; }
+
+static inline bool is_user(uint16_t tcd) { return tcd - 1u < 59999; }
+
+static inline bool is_unit(uint32_t u) { return 256 <= u && u <= 1396; }
+
+static inline bool is_address(uint8_t field, uint16_t node) { return field != 0 && node - 1u < 4095; }
+
+static inline uint64_t full(uint8_t t) { return t == 0 ? 0 : ~0ull >> (64 - t); }
+
+/* n octets in t pieces of u, t from 2 */
+static inline bool several(uint32_t n, uint8_t t, uint32_t u) { return is_unit(u) && (t - 1u) * u < n && n <= t * u; }
+
+static inline bool message_within(const struct message *m, uint64_t clock) {
+    return is_number(m->number) && is_user(m->tcd) && m->tbn > 1 && m->n <= AREA && several(m->n, m->tbn, m->u) && 0 < m->map &&
+           (64 < m->tbn || m->map < full(m->tbn)) && m->stamp <= clock;
+}
+
+static inline bool sender_within(const struct sender *s, uint64_t clock) {
+    return is_address(s->field, s->node) && s->last_number <= M && (s->last_version == 0 || s->last_number > 0) &&
+           (!s->open || message_within(&s->message, clock)) && (!s->alive || s->heard <= clock);
+}
+
+static inline bool settings_within(const struct receiver *r) {
+    return r->clock <= CLOCK_MOST && r->count <= PLACES && r->n1 - 1u < 1024 && r->t - 1 < 600000 &&
+           (r->count > 0 || (!r->test && r->n1 == 1 && r->t == 1));
+}
+
+/* One pass over the table: 9, or the place of the sender with this address, the count where none has it. */
+static inline bool look(const struct receiver *r, uint32_t address, unsigned *at) {
+    uint32_t seen[PLACES];
+    unsigned found = r->count;
+    if (!settings_within(r)) return false;
+    for (unsigned i = 0; i < r->count; i++) {
+        const struct sender *s = &r->senders[i];
+        uint32_t own = (uint32_t)s->field << 16 | s->node, twice = 0;
+        if (!sender_within(s, r->clock)) return false;
+        for (unsigned j = 0; j < i; j++) twice |= seen[j] == own;
+        if (twice) return false;
+        seen[i] = own;
+        if (own == address && found == r->count) found = i;
+    }
+    *at = found;
+    return true;
+}
+
+/* ---- a PDU */
+
+static inline bool head_within(const uint8_t *p) {
+    uint64_t inquiry = read8(p + INQ_ID) | read4(p + INQ_ID + 8);
+    return memcmp(p + H_TYPE, "NUXM", 4) == 0 && p[DOMAIN] == 0 && inquiry == 0 && read2(p + VER) == 0 && read8(p + GTID) == 0 &&
+           p[PVER] == 1 && read4(p + FUI) == 0 && p[PRI] <= 7 && read2(p + MODE) <= 1 && is_user(read2(p + TCD)) &&
+           is_number(read4(p + SEQ));
+}
+
+/* Whether the cut is possible; what it says is then in `c`. */
+static inline bool possible(const uint8_t *packet, size_t size, struct cut *c) {
+    uint32_t ml = read4(packet + ML);
+    c->cbn = packet[CBN];
+    c->tbn = packet[TBN];
+    if (ml < HEADER || ml - HEADER > AREA || c->cbn == 0 || c->tbn < c->cbn) return false;
+    uint32_t n = c->n = ml - HEADER, p = c->p = (uint32_t)size - HEADER;
+    if (c->tbn == 1) {
+        c->u = n;
+        return p == n;
+    }
+    if (c->cbn < c->tbn) {
+        c->u = p;
+        return several(n, c->tbn, p);
+    }
+    if (n <= p || (n - p) % (c->tbn - 1u) != 0) return false;
+    c->u = (n - p) / (c->tbn - 1u);
+    return is_unit(c->u) && 1 <= p && p <= c->u;
+}
+
+static inline enum verdict number_check(const struct receiver *r, const struct sender *s, uint32_t version, uint32_t number, uint32_t *skipped) {
+    *skipped = 0;
+    if (version == 0 && number == 1) return UNCHECKED;
+    if (s->last_version == 0) return FIRST;
+    if (version != s->last_version) return RESTART;
+    uint32_t last = s->last_number % M, this = number % M;
+    uint32_t back = last >= this ? last - this : last + M - this;
+    if (back < r->n1) return REPEAT;
+    if (back == M - 1) return NEXT;
+    *skipped = M - 1 - back;
+    return GAP;
+}
+
+static inline uint8_t packet_number(const struct receiver *r, size_t room, const uint8_t *packet, size_t size, unsigned *at) {
+    uint32_t address = size < HEADER ? 0 : (uint32_t)packet[DATA_FIELD] << 16 | read2(packet + NODE);
+    if (!look(r, address, at)) return 9;
+    if (room != (size_t)r->count * AREA) return 11;
+    if (size < HEADER || size > LONGEST || size != read2(packet + BSIZE)) return 12;
+    if (!head_within(packet)) return 13;
+    return *at >= r->count ? 14 : 0;
+}
+
+/* 15 to 20; the cut and the verdict are then known. */
+static inline uint8_t sender_number(const struct receiver *r, const struct sender *s, const uint8_t *packet, size_t size, struct cut *c, struct answer *a) {
+    const struct message *m = &s->message;
+    uint32_t version = read4(packet + V_SEQ), number = read4(packet + SEQ);
+    if (read2(packet + MODE) == 1 && !r->test) return 15;
+    if (!possible(packet, size, c)) return 16;
+    a->verdict = number_check(r, s, version, number, &a->skipped);
+    if (a->verdict == REPEAT) return 17;
+    if (!s->open || m->version != version) return 0;
+    if (number < m->number) return 18;
+    if (number != m->number) return 0;
+    if (m->tcd != read2(packet + TCD) || m->n != c->n || m->tbn != c->tbn || m->u != c->u) return 19;
+    return m->map >> (c->cbn - 1) & 1 ? 20 : 0;
+}
+
+/* What an admitted PDU does to its sender's record and area. */
+static inline void admit(const struct receiver *r, struct sender *s, uint8_t *area, const uint8_t *packet, const struct cut *c, struct answer *a) {
+    struct message *m = &s->message;
+    uint32_t version = read4(packet + V_SEQ), number = read4(packet + SEQ);
+    bool rejoins = s->open && m->version == version && m->number == number;
+    uint64_t map = (rejoins ? m->map : 0) | 1ull << (c->cbn - 1);
+    if (s->open && !rejoins) {
+        a->dropped_version = m->version;
+        a->dropped_number = m->number;
+    }
+    if (c->tbn != 1) memcpy(area + (c->cbn - 1u) * c->u, packet + HEADER, c->p);
+    if (map != full(c->tbn)) {
+        *m = (struct message){version, number, map, r->clock, read2(packet + TCD), (uint16_t)c->n, (uint16_t)c->u, c->tbn};
+        s->open = true;
+        a->number = 0;
+        a->verdict = 0;
+        a->held = (uint8_t)__builtin_popcountll(map);
+        return;
+    }
+    if (a->verdict != UNCHECKED) {
+        s->last_version = version;
+        s->last_number = number;
+    }
+    *m = (struct message){0};
+    s->open = false;
+    a->number = 1;
+    a->part = c->tbn == 1 ? packet + HEADER : area;
+    a->length = c->n;
+}
+
+static inline struct answer message(struct receiver *r, uint8_t *storage, size_t room, const uint8_t *packet, size_t size) {
+    struct answer a = {0};
+    struct cut c;
+    unsigned at;
+    a.number = packet_number(r, room, packet, size, &at);
+    if (a.number != 0) return a;
+    a.number = sender_number(r, &r->senders[at], packet, size, &c, &a);
+    if (a.number != 0) {
+        a.verdict = 0;
+        return a;
+    }
+    admit(r, &r->senders[at], storage + (size_t)at * AREA, packet, &c, &a);
+    return a;
+}
+
+/* ---- a night */
+
+/* Setup, for the nodes 1 to `senders` of data field 1. */
+static void begin(struct receiver *r, uint8_t mode, uint16_t n1, uint32_t t, uint8_t senders) {
+    memset(r, 0, sizeof *r);
+    r->n1 = 1;
+    r->t = 1;
+    if (mode > 1 || n1 - 1u >= 1024 || t - 1 >= 600000 || senders - 1u >= PLACES) return;
+    r->test = mode == 1;
+    r->n1 = n1;
+    r->t = t;
+    r->count = senders;
+    for (unsigned i = 0; i < senders; i++) {
+        r->senders[i].field = 1;
+        r->senders[i].node = (uint16_t)(i + 1);
+    }
+}
+
+uint64_t twin_night(uint8_t mode, uint16_t n1, uint32_t t, uint8_t senders, const uint8_t *packets, size_t octets, const uint16_t *sizes,
+                    size_t count, uint8_t *storage, size_t room) {
+    struct receiver r;
+    uint64_t sum = 0;
+    size_t at = 0;
+    begin(&r, mode, n1, t, senders);
+    for (size_t i = 0; i < count; i++) {
+        size_t size = sizes[i] < octets - at ? sizes[i] : octets - at;
+        struct answer a = message(&r, storage, room, packets + at, size);
+        sum += (a.number > 1 ? a.number : a.verdict) + a.held * 256ull + a.length;
+        at += size;
+    }
+    return sum;
+}
+
+/* ---- cutting */
+
+/* The PDU of piece c of the message with this number: its length, or 0 on a refusal with 23. */
+static inline size_t cut(uint32_t number, const uint8_t *message, size_t n, uint16_t u, uint8_t c, uint8_t *buffer, size_t room) {
+    size_t pieces = n <= u ? 1 : u == 0 ? 0 : (n - 1) / u + 1;
+    if (!is_number(number) || n > AREA || !is_unit(u) || c == 0 || c > pieces) return 0;
+    size_t start = (size_t)(c - 1) * u, own = c < pieces ? u : n - start;
+    if (room < HEADER + own) return 0;
+    memset(buffer, 0, HEADER);
+    memcpy(buffer + H_TYPE, "NUXM", 4);
+    write4(buffer + ML, (uint32_t)n + HEADER);
+    buffer[DATA_FIELD] = 1;
+    write2(buffer + NODE, 1);
+    write4(buffer + V_SEQ, 1);
+    write4(buffer + SEQ, number);
+    write2(buffer + TCD, 1);
+    buffer[PVER] = 1;
+    buffer[CBN] = c;
+    buffer[TBN] = (uint8_t)pieces;
+    write2(buffer + BSIZE, (uint16_t)(own + HEADER));
+    memcpy(buffer + HEADER, message + start, own);
+    return HEADER + own;
+}
+
+uint64_t twin_cuts(uint32_t number, const uint8_t *message, size_t n, uint16_t u, uint8_t last, uint8_t *buffer, size_t room) {
+    uint64_t sum = 0;
+    for (unsigned c = 1; c <= last; c++) {
+        size_t length = cut(number, message, n, u, (uint8_t)c, buffer, room);
+        sum += length == 0 ? 23 : length;
+    }
+    return sum;
+}

@@ -1,0 +1,4 @@
+pub mod Cutter
+pub mod CutterLaws
+pub mod ReadLaws
+pub mod Edges

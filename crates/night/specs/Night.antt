@@ -1,0 +1,66 @@
+-- A night: a receiver is set up and given packets, one behind the other. What it does to state and storage is `after` of `rules`.
+use Prim.Native.Nat.{ℕ, _+_, _*_, _%_, _^_}
+use mathlib.Core.List.{List, [], _∷_}
+use lib.ListN.{length, take, drop}
+use Rattle.ring.specs.Check.{verdictNumber}
+use Rattle.state.specs.declared.Address.{Address}
+use Rattle.rules.specs.declared.answers.Answer.{Answer}
+use Rattle.rules.specs.declared.answers.Outcome.{Outcome}
+use Rattle.rules.specs.declared.answers.Outcome.the-variants.{Refused, Stored, Delivered}
+use Rattle.rules.specs.declared.answers.Setup.{Setup}
+use Rattle.rules.specs.Message.{messageAnswer, messageStorage}
+use Rattle.rules.specs.Part.{partOf}
+use Rattle.rules.specs.Past.{World, Event, message, alive, clock, question, step}
+use Rattle.rules.specs.Setup.{setupAnswer}
+
+-- ---- what it starts with
+
+abbrev pub nodeOf : ℕ → Address
+nodeOf k = record { field = record { 0 = 1 }; node = record { 0 = k } }
+
+abbrev pub nodes : List Address
+nodes =
+    nodeOf 1 ∷ nodeOf 2 ∷ nodeOf 3 ∷ nodeOf 4 ∷ nodeOf 5 ∷ nodeOf 6 ∷ nodeOf 7 ∷ nodeOf 8 ∷ nodeOf 9 ∷ nodeOf 10 ∷ nodeOf 11 ∷ nodeOf 12
+    ∷ nodeOf 13 ∷ nodeOf 14 ∷ nodeOf 15 ∷ nodeOf 16 ∷ []
+
+-- A node whose senders are the nodes 1 to `count` of data field 1.
+abbrev pub boardOf : ℕ → ℕ → ℕ → ℕ → Setup
+boardOf mode n1 t count = record { mode = mode; n1 = n1; t = t; count = count; senders = nodes }
+
+unfoldable pub begun : Setup → List ℕ → World
+begun q storage = record { state = setupAnswer q .state; storage = storage }
+
+-- ---- the packets
+
+-- Message calls on the packets that lie one behind the other, each as long as its size says.
+unfoldable pub packetsBy : List ℕ → List ℕ → List Event
+packetsBy [] packets = []
+packetsBy (n ∷ sizes) packets = message (take n packets) ∷ packetsBy sizes (drop n packets)
+
+-- ---- the number that is answered
+
+-- A refusal's number, a delivery's verdict.
+abbrev pub said : Outcome → ℕ
+said (Refused k) = k
+said Stored = 0
+said (Delivered v) = verdictNumber v
+
+-- The sum with one more answer in it: what was said, the pieces held, and the length that was handed over.
+abbrev pub tallied : ℕ → Outcome → ℕ → ℕ → ℕ
+tallied sum o held n = ((sum + (said o + held * 256)) % 2 ^ 64 + n) % 2 ^ 64
+
+abbrev pub tallyAnswer : ℕ → Answer → List ℕ → ℕ
+tallyAnswer sum a delivered = tallied sum (a .outcome) (a .held) (length delivered)
+
+unfoldable pub tallyBy : ℕ → World → Event → ℕ
+tallyBy sum w (message packet) =
+    let a = messageAnswer (w .state) (length (w .storage)) packet in
+    tallyAnswer sum a (partOf (a .place) packet (messageStorage (w .state) (w .storage) packet))
+tallyBy sum w (alive packet) = sum
+tallyBy sum w (clock now) = sum
+tallyBy sum w question = sum
+
+-- Over calls, "each given the state and storage that the one before left".
+unfoldable pub tallyOf : ℕ → World → List Event → ℕ
+tallyOf sum w [] = sum
+tallyOf sum w (e ∷ es) = tallyOf (tallyBy sum w e) (step w e) es

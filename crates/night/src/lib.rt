@@ -1,0 +1,214 @@
+// Whole nights in one call, for the bench: a receiver is set up and given the packets that lie one behind the other in a lent slice, and
+// a message is cut piece by piece. A program in C lends the octets, and measures.
+//
+// What is answered is one number made of all answers, so that none can be left out and two programs are quickly compared.
+ghost use mathlib.Core.Path.{_≡_};
+ghost use Rattle.octets.specs.Run.{run};
+ghost use Rattle.rules.specs.Past.{after};
+ghost use Rattle.night.specs.Night.{boardOf, begun, packetsBy, said as saidOf, tallied, tallyOf};
+ghost use Rattle.night.specs.Cuts.{givenOf, cutTally, cutsTally, cutsBuffer};
+use cutter::Cutting;
+use cutter::cutter;
+use header::DataField;
+use header::Given;
+use header::Node;
+use octets::from;
+use receiver::message::message;
+use receiver::part::part;
+use ring::Number;
+use ring::Version;
+use rules::answers::Outcome;
+use rules::answers::Setup;
+use setup::setup;
+use state::Address;
+use std::num::wrapping_add_u64;
+
+// A night of a receiver with these settings and this many senders: packet after packet, each as long as its size says.
+#[no_mangle]
+pub extern "C" fn adp_night(
+    mode: u8,
+    n1: u16,
+    t: u32,
+    senders: u8,
+    packets: &[u8],
+    sizes: &[u16],
+    storage: &mut [u8],
+) -> u64
+    ensures answer { λ r. ⌜ r ≡ tallyOf 0 (begun (boardOf mode n1 t senders) (now (storage .entry))) (packetsBy (now (sizes .entry)) (now (packets .entry))) ⌝ }
+    ensures stored { λ _. ⌜ now (storage .exit) ≡ after (begun (boardOf mode n1 t senders) (now (storage .entry))) (packetsBy (now (sizes .entry)) (now (packets .entry))) .storage ⌝ }
+{
+    let started = setup(board(mode, n1, t, senders));
+    let mut state = started.state;
+    let mut sum: u64 = 0;
+    let mut at: usize = 0;
+    let mut i: usize = 0;
+    while i < sizes.len() {
+        let packet = packet_at(packets, at, sizes[i]);
+        let a = message(state, storage, packet);
+        let outcome = a.outcome;
+        let place = a.place;
+        sum = tally(sum, outcome, a.held, part(place, packet, storage).len());
+        state = a.state;
+        at += packet.len();
+        i += 1;
+    }
+    sum
+}
+
+// The pieces 1 to last of a message, each written into the same buffer.
+#[no_mangle]
+pub extern "C" fn adp_cuts(number: u32, message: &[u8], u: u16, last: u8, buffer: &mut [u8]) -> u64
+    ensures answer { λ r. ⌜ r ≡ cutsTally (givenOf number) (now (message .entry)) u (now (buffer .entry)) last ⌝ }
+    ensures written { λ _. ⌜ now (buffer .exit) ≡ cutsBuffer (givenOf number) (now (message .entry)) u (now (buffer .entry)) last ⌝ }
+{
+    let given = given_of(number);
+    let mut sum: u64 = 0;
+    let mut c: u8 = 0;
+    while c < last {
+        c += 1;
+        let cutting = cutter(given, message, u, c, buffer);
+        sum = cut_tally(sum, cutting);
+    }
+    sum
+}
+
+// ---- what a night starts with
+
+const FIELD: DataField = DataField(1);
+
+const NODES: [Address; 16] = [
+    Address {
+        field: FIELD,
+        node: Node(1),
+    },
+    Address {
+        field: FIELD,
+        node: Node(2),
+    },
+    Address {
+        field: FIELD,
+        node: Node(3),
+    },
+    Address {
+        field: FIELD,
+        node: Node(4),
+    },
+    Address {
+        field: FIELD,
+        node: Node(5),
+    },
+    Address {
+        field: FIELD,
+        node: Node(6),
+    },
+    Address {
+        field: FIELD,
+        node: Node(7),
+    },
+    Address {
+        field: FIELD,
+        node: Node(8),
+    },
+    Address {
+        field: FIELD,
+        node: Node(9),
+    },
+    Address {
+        field: FIELD,
+        node: Node(10),
+    },
+    Address {
+        field: FIELD,
+        node: Node(11),
+    },
+    Address {
+        field: FIELD,
+        node: Node(12),
+    },
+    Address {
+        field: FIELD,
+        node: Node(13),
+    },
+    Address {
+        field: FIELD,
+        node: Node(14),
+    },
+    Address {
+        field: FIELD,
+        node: Node(15),
+    },
+    Address {
+        field: FIELD,
+        node: Node(16),
+    },
+];
+
+// A node whose senders are the nodes 1 to this many of data field 1.
+fn board(mode: u8, n1: u16, t: u32, count: u8) -> Setup
+    ensures { λ r. ⌜ r ≡ boardOf mode n1 t count ⌝ }
+{
+    Setup {
+        mode,
+        n1,
+        t,
+        count,
+        senders: NODES,
+    }
+}
+
+// The header values of the first sender's message with this number.
+fn given_of(number: u32) -> Given
+    ensures { λ r. ⌜ r ≡ givenOf number ⌝ }
+{
+    Given {
+        field: DataField(1),
+        node: Node(1),
+        da: 0,
+        version: Version(1),
+        number: Number(number),
+        mctl: 0,
+        tcd: 1,
+        mode: 0,
+        pri: 0,
+    }
+}
+
+// ---- one packet
+
+// The packet of this size at a place, as far as there are octets.
+fn packet_at(packets: &[u8], at: usize, size: u16) -> &[u8]
+    ensures { λ r. ⌜ now r ≡ run at size (now (packets .entry)) ⌝ }
+{
+    let rest = from(packets, at);
+    if (size as usize) < rest.len() {
+        &rest[..size as usize]
+    } else {
+        rest
+    }
+}
+
+// The sum with one more answer in it: its number or its verdict, the pieces held, and the length that was handed over.
+fn tally(sum: u64, o: Outcome, held: u8, length: usize) -> u64
+    ensures { λ r. ⌜ r ≡ tallied sum o held length ⌝ }
+{
+    let answer = said(o) as u64 + (held as u64) * 256;
+    wrapping_add_u64(wrapping_add_u64(sum, answer), length as u64)
+}
+
+fn said(o: Outcome) -> u8
+    ensures { λ r. ⌜ r ≡ saidOf o ⌝ }
+{
+    match o {
+        Outcome::Refused(number) => number,
+        Outcome::Stored => 0,
+        Outcome::Delivered(verdict) => verdict.printed(),
+    }
+}
+
+// The sum with one more answer of the cutter in it.
+fn cut_tally(sum: u64, cutting: Cutting) -> u64
+    ensures { λ r. ⌜ r ≡ cutTally sum cutting ⌝ }
+{
+    let answer = cutting.number() as u64 + cutting.length() as u64;
+    wrapping_add_u64(sum, answer)
+}

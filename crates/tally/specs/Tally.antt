@@ -1,0 +1,52 @@
+-- The maintenance tally: "one record of the caller's, counted up where it stands: one count of answers 0 and 1, one of refusals, each stopping
+-- at 4,294,967,295."
+use Prim.Native.Nat.{ℕ, _+_, min}
+use mathlib.Core.Bool.{Bool, true, false, cond}
+use mathlib.Core.List.{List, [], _∷_}
+use lib.Dec.{leb}
+use Rattle.rules.specs.declared.answers.Outcome.{Outcome}
+use Rattle.rules.specs.declared.answers.Outcome.the-variants.{Refused, Stored, Delivered}
+use Rattle.tally.specs.declared.Tally.{Tally}
+
+-- "each stopping at 4,294,967,295"
+abbrev pub most : ℕ
+most = 4294967295
+
+abbrev pub stopping : ℕ → ℕ
+stopping k = min k most
+
+-- The record after one more answer, and after one more refusal.
+abbrev pub oneAnswer : Tally → Tally
+oneAnswer t = record { answers = stopping (t .answers + 1); refusals = t .refusals }
+
+abbrev pub oneRefusal : Tally → Tally
+oneRefusal t = record { answers = t .answers; refusals = stopping (t .refusals + 1) }
+
+-- "one count of answers 0 and 1, one of refusals": 0 is stored, 1 is delivered.
+abbrev pub counted : Tally → Outcome → Tally
+counted t (Refused k) = oneRefusal t
+counted t Stored = oneAnswer t
+counted t (Delivered v) = oneAnswer t
+
+-- The same by 01's numbers.
+abbrev pub countedBy : Tally → ℕ → Tally
+countedBy t n = cond (leb n 1) (oneAnswer t) (oneRefusal t)
+
+-- ---- over many calls, first to last
+
+unfoldable pub tallied : Tally → List Outcome → Tally
+tallied t [] = t
+tallied t (o ∷ os) = tallied (counted t o) os
+
+abbrev pub isRefusal : Outcome → Bool
+isRefusal (Refused k) = true
+isRefusal Stored = false
+isRefusal (Delivered v) = false
+
+unfoldable pub answersAmong : List Outcome → ℕ
+answersAmong [] = 0
+answersAmong (o ∷ os) = cond (isRefusal o) (answersAmong os) (1 + answersAmong os)
+
+unfoldable pub refusalsAmong : List Outcome → ℕ
+refusalsAmong [] = 0
+refusalsAmong (o ∷ os) = cond (isRefusal o) (1 + refusalsAmong os) (refusalsAmong os)

@@ -1,0 +1,86 @@
+-- What a message call leaves in the tally, and what the tally says after any run of calls. Assumes nothing.
+use mathlib.Core.Path.{_≡_, refl, ap, _∙_}
+use mathlib.Core.Bool.{true}
+use mathlib.Core.List.{List, [], _∷_}
+use Prim.Native.Nat.{ℕ, _+_, _≤_, _<_}
+use native.Mathlib.Omega.{arith}
+use lib.ListN.{length}
+use borrow.Author.Tests.{lt-leb}
+use Rattle.state.specs.declared.Receiver.{Receiver}
+use Rattle.rules.specs.declared.answers.Answer.{Answer}
+use Rattle.rules.specs.declared.answers.Outcome.{Outcome}
+use Rattle.rules.specs.declared.answers.Outcome.the-variants.{Refused, Stored, Delivered}
+use Rattle.rules.specs.Admit.{senderRows, outcomeNumber}
+use Rattle.rules.specs.Exactly.{message-refuses, message-given}
+use Rattle.rules.specs.FirstLaws.{above, given-above}
+use Rattle.rules.specs.Message.{messageRows, refused, messageAnswer, messageStorage}
+use Rattle.tally.specs.declared.Tally.{Tally}
+use Rattle.tally.specs.Tally.{most, stopping, oneRefusal, counted, countedBy, tallied, answersAmong, refusalsAmong}
+
+-- ---- one call
+
+module _ (t : Tally) (w : Receiver) (storage packet : List ℕ) where
+  abbrev answer : Answer
+  answer = messageAnswer w (length storage) packet
+
+  -- "A refusal changes neither the state nor one octet of lent memory, save a count of refusals"
+  pub record SaveACount : Type 0 where
+    pub same-state : messageAnswer w (length storage) packet .state ≡ w
+    pub same-storage : messageStorage w storage packet ≡ storage
+    pub one-refusal : counted t (messageAnswer w (length storage) packet .outcome) ≡ oneRefusal t
+
+  pub save-a-count : (k : ℕ) → messageAnswer w (length storage) packet .outcome ≡ Refused k → SaveACount
+  unfolding refused
+  save-a-count k e =
+      let r : (answer ≡ refused w k) × (messageStorage w storage packet ≡ storage) = message-refuses w storage packet k (message-given w storage packet k e) in
+      record { same-state = ap (λ (a : Answer). a .state) (r .0); same-storage = r .1; one-refusal = ap (counted t) e }
+
+  -- "one count of answers 0 and 1, one of refusals": which count grows is told by 01's number alone.
+  pub by-number : counted t (messageAnswer w (length storage) packet .outcome) ≡ countedBy t (outcomeNumber (messageAnswer w (length storage) packet .outcome))
+  unfolding messageRows senderRows above
+  by-number = by (answer .outcome) refl
+    where
+      by : (o : Outcome) → answer .outcome ≡ o → counted t o ≡ countedBy t (outcomeNumber o)
+      by (Refused k) e = rw (lt-leb k 1 (given-above 1 (messageRows w (length storage) packet) k refl (message-given w storage packet k e)))
+      by Stored e = refl
+      by (Delivered v) e = refl
+
+-- ---- a count
+
+pub never-falls : (k : ℕ) → k ≤ most → k ≤ stopping (k + 1)
+never-falls k h = omega (arith, h)
+
+pub never-passes : (k : ℕ) → stopping k ≤ most
+never-passes k = omega arith
+
+one-and-more : (k n : ℕ) → stopping (stopping (k + 1) + n) ≡ stopping (k + (1 + n))
+one-and-more k n = omega arith
+
+-- ---- any run of calls
+
+-- Each count has grown by as many as there were of its kind, up to where it stops.
+pub answers-counted : (os : List Outcome) (t : Tally) → t .answers ≤ most → tallied t os .answers ≡ stopping (t .answers + answersAmong os)
+unfolding tallied answersAmong
+answers-counted [] t h = omega (arith, h)
+answers-counted (Refused k ∷ os) t h = answers-counted os (counted t (Refused k)) h
+answers-counted (Stored ∷ os) t h = answers-counted os (counted t Stored) (never-passes (t .answers + 1)) ∙ one-and-more (t .answers) (answersAmong os)
+answers-counted (Delivered v ∷ os) t h = answers-counted os (counted t (Delivered v)) (never-passes (t .answers + 1)) ∙ one-and-more (t .answers) (answersAmong os)
+
+pub refusals-counted : (os : List Outcome) (t : Tally) → t .refusals ≤ most → tallied t os .refusals ≡ stopping (t .refusals + refusalsAmong os)
+unfolding tallied refusalsAmong
+refusals-counted [] t h = omega (arith, h)
+refusals-counted (Refused k ∷ os) t h = refusals-counted os (counted t (Refused k)) (never-passes (t .refusals + 1)) ∙ one-and-more (t .refusals) (refusalsAmong os)
+refusals-counted (Stored ∷ os) t h = refusals-counted os (counted t Stored) h
+refusals-counted (Delivered v ∷ os) t h = refusals-counted os (counted t (Delivered v)) h
+
+-- Each call is counted once: while neither count stands where it stops, the two have grown by as many as there were calls.
+pub among-all : (os : List Outcome) → answersAmong os + refusalsAmong os ≡ length os
+unfolding answersAmong refusalsAmong
+among-all [] = refl
+among-all (Refused k ∷ os) = omega (arith, among-all os)
+among-all (Stored ∷ os) = omega (arith, among-all os)
+among-all (Delivered v ∷ os) = omega (arith, among-all os)
+
+pub all-counted : (os : List Outcome) (t : Tally) → t .answers ≤ most → t .refusals ≤ most → tallied t os .answers < most → tallied t os .refusals < most
+    → tallied t os .answers + tallied t os .refusals ≡ t .answers + t .refusals + length os
+all-counted os t a r a′ r′ = omega (arith, a′, r′, answers-counted os t a, refusals-counted os t r, among-all os)
