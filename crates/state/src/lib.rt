@@ -3,7 +3,7 @@
 //
 // What is not open, not alive or past the senders is written 0 and never looked at.
 ghost use mathlib.Core.Path.{_≡_};
-ghost use mathlib.Core.Bool.{cond};
+ghost use mathlib.Core.Bool.{cond, not, _||_};
 ghost use Prim.Native.Nat.{_+_, _≤_, _<_};
 ghost use lib.Dec.{ltb};
 ghost use Rattle.state.specs.Limits.{isAddress, sameAddress, lastWithin, messageWithin, senderWithin, settingsOf, newAmong, given, addressesWithin};
@@ -52,12 +52,13 @@ pub struct Address {
     pub node: Node,
 }
 
+// The two flags stand together: between larger fields each would cost a copy of the state a move for every sender.
 pub struct Sender {
     pub address: Address,
-    pub last: Last,
     pub open: bool,
-    pub message: Message,
     pub alive: bool,
+    pub last: Last,
+    pub message: Message,
     pub heard: Heard,
 }
 
@@ -166,7 +167,7 @@ impl Sender {
         let message = self.message;
         address.within()
             & last.within()
-            & (!self.open | message.within(clock))
+            & open_within(self.open, message, clock)
             & (!self.alive | (self.heard.stamp <= clock))
     }
 }
@@ -225,6 +226,16 @@ impl Receiver {
         }
         Look { valid, at }
     }
+}
+
+// Only an open message is looked at.
+fn open_within(open: bool, m: Message, clock: u64) -> bool
+    ensures { λ r. ⌜ r ≡ (not «open» || messageWithin clock m) ⌝ }
+{
+    if open {
+        return m.within(clock);
+    }
+    true
 }
 
 // What one pass over the table finds.
