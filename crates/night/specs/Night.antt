@@ -1,9 +1,10 @@
 -- A night: a receiver is set up and given packets, one behind the other. What it does to state and storage is `after` of `rules`.
-use Prim.Native.Nat.{ℕ, _+_, _*_, _%_, _^_}
+use Prim.Native.Nat.{ℕ, zero, suc, _+_, _*_, _%_, _^_}
 use mathlib.Core.List.{List, [], _∷_}
-use lib.ListN.{length, take, drop}
+use lib.ListN.{length, take, drop, set, replicate}
 use Rattle.ring.specs.Check.{verdictNumber}
 use Rattle.state.specs.declared.Address.{Address}
+use Rattle.state.specs.State.{noAddress}
 use Rattle.rules.specs.declared.answers.Answer.{Answer}
 use Rattle.rules.specs.declared.answers.Outcome.{Outcome}
 use Rattle.rules.specs.declared.answers.Outcome.the-variants.{Refused, Stored, Delivered}
@@ -18,14 +19,14 @@ use Rattle.rules.specs.Setup.{setupAnswer}
 abbrev pub nodeOf : ℕ → Address
 nodeOf k = record { field = record { 0 = 1 }; node = record { 0 = k } }
 
-abbrev pub nodes : List Address
-nodes =
-    nodeOf 1 ∷ nodeOf 2 ∷ nodeOf 3 ∷ nodeOf 4 ∷ nodeOf 5 ∷ nodeOf 6 ∷ nodeOf 7 ∷ nodeOf 8 ∷ nodeOf 9 ∷ nodeOf 10 ∷ nodeOf 11 ∷ nodeOf 12
-    ∷ nodeOf 13 ∷ nodeOf 14 ∷ nodeOf 15 ∷ nodeOf 16 ∷ []
+-- The first k of 16 places hold the nodes 1 to k.
+unfoldable pub nodesTo : ℕ → List Address
+nodesTo zero = replicate 16 noAddress
+nodesTo (suc k) = set (nodesTo k) k (nodeOf (suc k))
 
 -- A node whose senders are the nodes 1 to `count` of data field 1.
 abbrev pub boardOf : ℕ → ℕ → ℕ → ℕ → Setup
-boardOf mode n1 t count = record { mode = mode; n1 = n1; t = t; count = count; senders = nodes }
+boardOf mode n1 t count = record { mode = mode; n1 = n1; t = t; count = count; senders = nodesTo 16 }
 
 unfoldable pub begun : Setup → List ℕ → World
 begun q storage = record { state = setupAnswer q .state; storage = storage }

@@ -5,7 +5,7 @@
 ghost use mathlib.Core.Path.{_≡_};
 ghost use Rattle.octets.specs.Run.{run};
 ghost use Rattle.rules.specs.Past.{after};
-ghost use Rattle.night.specs.Night.{boardOf, begun, packetsBy, said as saidOf, tallied, tallyOf};
+ghost use Rattle.night.specs.Night.{nodesTo, boardOf, begun, packetsBy, said as saidOf, tallied, tallyOf};
 ghost use Rattle.night.specs.Cuts.{givenOf, cutTally, cutsTally, cutsBuffer};
 use cutter::Cutting;
 use cutter::cutter;
@@ -74,85 +74,34 @@ pub extern "C" fn adp_cuts(number: u32, message: &[u8], u: u16, last: u8, buffer
 
 // ---- what a night starts with
 
-const FIELD: DataField = DataField(1);
-
-const NODES: [Address; 16] = [
-    Address {
-        field: FIELD,
-        node: Node(1),
-    },
-    Address {
-        field: FIELD,
-        node: Node(2),
-    },
-    Address {
-        field: FIELD,
-        node: Node(3),
-    },
-    Address {
-        field: FIELD,
-        node: Node(4),
-    },
-    Address {
-        field: FIELD,
-        node: Node(5),
-    },
-    Address {
-        field: FIELD,
-        node: Node(6),
-    },
-    Address {
-        field: FIELD,
-        node: Node(7),
-    },
-    Address {
-        field: FIELD,
-        node: Node(8),
-    },
-    Address {
-        field: FIELD,
-        node: Node(9),
-    },
-    Address {
-        field: FIELD,
-        node: Node(10),
-    },
-    Address {
-        field: FIELD,
-        node: Node(11),
-    },
-    Address {
-        field: FIELD,
-        node: Node(12),
-    },
-    Address {
-        field: FIELD,
-        node: Node(13),
-    },
-    Address {
-        field: FIELD,
-        node: Node(14),
-    },
-    Address {
-        field: FIELD,
-        node: Node(15),
-    },
-    Address {
-        field: FIELD,
-        node: Node(16),
-    },
-];
+// The nodes 1 to 16 of data field 1.
+fn nodes() -> [Address; 16]
+    ensures { λ r. ⌜ r ≡ nodesTo 16 ⌝ }
+{
+    let mut nodes = [Address::NONE; 16];
+    let mut i: u16 = 0;
+    while i < 16 {
+        let a = Address {
+            field: DataField(1),
+            node: Node(i + 1),
+        };
+        nodes[i as usize] = a;
+        i += 1;
+    }
+    nodes
+}
 
 // A node whose senders are the nodes 1 to this many of data field 1.
 fn board(mode: u8, n1: u16, t: u32, count: u8) -> Setup
     ensures { λ r. ⌜ r ≡ boardOf mode n1 t count ⌝ }
 {
+    let senders = nodes();
     Setup {
         mode,
         n1,
         t,
         count,
-        senders: NODES,
+        senders,
     }
 }
 

@@ -1,8 +1,10 @@
 // Setup: the state that a node starts with.
 ghost use mathlib.Core.Path.{_≡_};
+ghost use mathlib.Core.Bool.{true, cond};
 ghost use Prim.Native.Nat.{_≤_};
-ghost use Rattle.rules.specs.Setup.{setupWithin, newSenders, setupState, setupAnswer};
-ghost use Rattle.state.specs.State.{newSender};
+ghost use Rattle.rules.specs.Setup.{setupWithin, setupState, setupAnswer};
+ghost use Rattle.setup.specs.Settled.{settled as settledBy};
+ghost use Rattle.state.specs.State.{newSender, emptyReceiver};
 use rules::answers::Call;
 use rules::answers::Setup;
 use rules::answers::Started;
@@ -17,14 +19,14 @@ use state::addresses_within;
 pub fn setup(q: Setup) -> Started
     ensures { λ r. ⌜ r ≡ setupAnswer q ⌝ }
 {
-    if !setup_within(q) {
-        let state = Receiver::empty();
+    let within = setup_within(q);
+    let state = new_state(q, within);
+    if !within {
         return Started {
             call: Call::Refused(10),
             state,
         };
     }
-    let state = new_state(q);
     Started {
         call: Call::Done,
         state,
@@ -42,12 +44,15 @@ fn setup_within(q: Setup) -> bool
         & addresses_within(senders, q.count)
 }
 
-fn new_state(q: Setup) -> Receiver
-    requires { ⌜ q .count ≤ 16 ⌝ }
-    ensures { λ r. ⌜ r ≡ setupState q ⌝ }
+// The empty state, or for a setup within its limits one with its settings.
+fn settled(q: Setup, within: bool) -> Receiver
+    ensures { λ r. ⌜ r ≡ settledBy q within ⌝ }
 {
-    let addresses = q.senders;
-    let senders = new_senders(addresses, q.count);
+    let empty = Receiver::empty();
+    if !within {
+        return empty;
+    }
+    let senders = empty.senders;
     Receiver {
         test: q.mode == 1,
         n1: q.n1,
@@ -58,19 +63,22 @@ fn new_state(q: Setup) -> Receiver
     }
 }
 
-// The table: places past the senders are 0.
-fn new_senders(addresses: [Address; 16], count: u8) -> [Sender; 16]
-    requires { ⌜ count ≤ 16 ⌝ }
-    ensures { λ r. ⌜ r ≡ newSenders addresses count ⌝ }
+// Both answers' states come out of one loop: made on two ways, a state would be copied field by field wherever it goes.
+fn new_state(q: Setup, within: bool) -> Receiver
+    requires { ⌜ (within ≡ true → q .count ≤ 16) ⌝ }
+    ensures { λ r. ⌜ r ≡ cond within (setupState q) emptyReceiver ⌝ }
 {
-    let mut senders = [Sender::NONE; 16];
+    let mut state = settled(q, within);
+    let count = state.count;
+    let addresses = q.senders;
     let mut i: u8 = 0;
     while i < count {
         let a = addresses[i as usize];
-        senders[i as usize] = new_sender(a);
+        let s = new_sender(a);
+        state.senders[i as usize] = s;
         i += 1;
     }
-    senders
+    state
 }
 
 // Nobody is heard, nothing is open.

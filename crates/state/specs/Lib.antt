@@ -3,6 +3,8 @@ pub mod Map
 pub mod MapLaws
 pub mod Limits
 pub mod LimitsLaws
+pub mod Key
+pub mod KeyLaws
 pub mod WithinLaws
 pub mod Table
 pub mod TableLaws

@@ -1,15 +1,14 @@
 -- Laws of the limits: what one pass over the table needs, and what a valid state says of each sender. Assumes nothing.
-use mathlib.Core.Path.{_≡_, refl, ap₂, _∙_}
-use mathlib.Core.Logic.{_≢_, ⊎-elim}
+use mathlib.Core.Path.{_≡_, refl, ap₂}
+use mathlib.Core.Logic.{⊎-elim}
 use mathlib.Core.Bool.{Bool, true, false, not, _&&_, and-assoc, and-false}
 use mathlib.Core.List.{List}
 use Prim.Native.Nat.{ℕ, zero, suc, _+_, _≤_, _<_}
 use native.Mathlib.Numerals.{add-one}
 use native.Mathlib.Omega.{arith}
-use lib.ListN.{length, getD, set, List·getD-eq-default}
-use lib.Seq.{getD-set-same, getD-set-other}
+use lib.ListN.{length, getD, List·getD-eq-default}
 use borrow.Author.Tests.{lt-leb}
-use Rattle.octets.specs.Split.{lt-or-le, eq-or-ne, never-both}
+use Rattle.octets.specs.Split.{lt-or-le, never-both}
 use Rattle.state.specs.declared.Address.{Address}
 use Rattle.state.specs.declared.Sender.{Sender}
 use Rattle.state.specs.declared.Receiver.{Receiver}
@@ -21,14 +20,6 @@ unfolding newAmong
 new-ext f g zero a h = refl
 new-ext f g (suc k) a h =
     ap₂ (λ (x : Bool) (b : Address). x && not (sameAddress b a)) (new-ext f g k a (λ j q. h j (omega arith))) (h k (omega arith))
-
--- The addresses seen so far are those of the table, and one more.
-pub seen-more : (seen : List Address) (l : List Sender) (i : ℕ) → i < length seen → ((j : ℕ) → j < i → given seen j ≡ addressAt l j)
-    → (j : ℕ) → j < i + 1 → given (set seen i (addressAt l i)) j ≡ addressAt l j
-seen-more seen l i room h j q = ⊎-elim
-    (λ (e : j ≡ i). rw e (getD-set-same seen i (addressAt l i) noAddress room))
-    (λ (n : j ≢ i). getD-set-other seen i j (addressAt l i) noAddress n ∙ h j (omega arith))
-    (eq-or-ne j i)
 
 -- One sender more.
 pub senders-more : (clock : ℕ) (l : List Sender) (i : ℕ) (so-far settings within new : Bool)

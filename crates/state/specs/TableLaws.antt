@@ -16,10 +16,11 @@ use Rattle.state.specs.LimitsLaws.{valid-count}
 use Rattle.state.specs.State.{firstWhere}
 use Rattle.state.specs.Table.{source, find, found, lookAt}
 
-pub find-more : (l : List Sender) (a : Address) (i at : ℕ) (here : Bool) → at ≡ find l a i → here ≡ sameAddress (addressAt l i) a
-    → cond (ltb at i) at (cond here i (i + 1)) ≡ find l a (i + 1)
+-- One sender more.
+pub find-more : (l : List Sender) (a : Address) (i at next : ℕ) (here : Bool) → at ≡ find l a i → here ≡ sameAddress (addressAt l i) a
+    → next ≡ cond (ltb at i) at (cond here i (i + 1)) → next ≡ find l a (i + 1)
 unfolding firstWhere
-find-more l a i at here e f = rw (e, f, add-one i)
+find-more l a i at next here e f g = rw (g, e, f, add-one i)
 
 -- A state with few enough senders, after the whole pass.
 pub look-few : (w : Receiver) (a : Address) (settings all : Bool) (i at : ℕ) → w .count ≤ sendersMost → i ≡ w .count

@@ -6,7 +6,9 @@ ghost use mathlib.Core.Path.{_≡_};
 ghost use mathlib.Core.Bool.{cond, not, _||_};
 ghost use Prim.Native.Nat.{_+_, _≤_, _<_};
 ghost use lib.Dec.{ltb};
-ghost use Rattle.state.specs.Limits.{isAddress, sameAddress, lastWithin, messageWithin, senderWithin, settingsOf, newAmong, given, addressesWithin};
+ghost use Rattle.state.specs.Limits.{isAddress, sameAddress, lastWithin, messageWithin, senderWithin, settingsOf, addressesWithin};
+ghost use Rattle.state.specs.Key.{keyOf, newKey};
+ghost use Rattle.state.specs.KeyLaws.{Narrow};
 ghost use Rattle.state.specs.Table.{source as sourceOf, lookAt};
 ghost use Rattle.state.specs.State.{emptyReceiver};
 
@@ -91,6 +93,13 @@ impl Address {
         ensures { λ r. ⌜ r ≡ sameAddress self other ⌝ }
     {
         (self.field.0 == other.field.0) & (self.node.0 == other.node.0)
+    }
+
+    // The address as one number, so that an address is compared with those before it at once, and these are lent, not copied.
+    fn key(self) -> u32
+        ensures { λ r. ⌜ (r ≡ keyOf self) × Narrow self ⌝ }
+    {
+        self.field.0 as u32 * 65_536 + self.node.0 as u32
     }
 }
 
@@ -214,13 +223,14 @@ impl Receiver {
         let clock = self.clock;
         let mut valid = settings_within(self.test, self.n1, self.t, clock, count);
         let mut at = 0;
-        let mut seen = [Address::NONE; 16];
+        let mut seen = [0u32; 16];
         let mut i: u8 = 0;
         while i < count {
             let s = self.senders[i as usize];
             let b = s.address;
-            valid = valid & (s.within(clock) & fresh(seen, i, b));
-            seen[i as usize] = b;
+            let key = b.key();
+            valid = valid & (s.within(clock) & fresh(&seen, i, key));
+            seen[i as usize] = key;
             at = next_place(at, i, b.same(a));
             i += 1;
         }
@@ -263,25 +273,27 @@ pub fn addresses_within(senders: [Address; 16], count: u8) -> bool
         return false;
     }
     let mut within = true;
+    let mut seen = [0u32; 16];
     let mut i: u8 = 0;
     while i < count {
         let a = senders[i as usize];
-        within = within & (a.within() & fresh(senders, i, a));
+        let key = a.key();
+        within = within & (a.within() & fresh(&seen, i, key));
+        seen[i as usize] = key;
         i += 1;
     }
     within
 }
 
-// Whether none of the first k addresses is this one.
-fn fresh(seen: [Address; 16], k: u8, a: Address) -> bool
+// Whether none of the first k numbers is this one.
+fn fresh(seen: &[u32; 16], k: u8, key: u32) -> bool
     requires { ⌜ k ≤ 16 ⌝ }
-    ensures { λ r. ⌜ r ≡ newAmong (given seen) k a ⌝ }
+    ensures { λ r. ⌜ r ≡ newKey (now (seen .entry)) k key ⌝ }
 {
     let mut new = true;
     let mut j: u8 = 0;
     while j < k {
-        let b = seen[j as usize];
-        new = new & !b.same(a);
+        new = new & (seen[j as usize] != key);
         j += 1;
     }
     new

@@ -3,19 +3,20 @@ use Prim.Native.Nat.{_≤_, _-_}
 use mathlib.Core.Path.{_≡_, refl, sym}
 use native.Mathlib.Omega.{arith}
 use borrow.Author.Needs.{needs}
-use lib.ListN.{length}
+use lib.ListN.{length, length-set}
 use Rattle.octets.specs.Split.{mapped-length}
-use Rattle.state.specs.Limits.{addressesWithin}
+use Rattle.state.specs.Limits.{given, addressesWithin}
 use Rattle.state.specs.LimitsLaws.{addresses-more, addresses-few}
-use borrow.Author.Needs.{needs}
+use Rattle.state.specs.KeyLaws.{Seen, seen-none, seen-more, new-seen}
 use Rattle.state.proofs.addresses_within.Statement.{statement}
 use Rattle.state.proofs.addresses_within.Tie as tie
 
 abbrev Inv-loop : tie.InvT-loop
-Inv-loop count senders within₀ i₀ within i = (i ≤ count) × (count ≤ 16) × (within ≡ addressesWithin senders i)
+Inv-loop count senders within₀ seen₀ i₀ within seen i =
+    (i ≤ count) × (count ≤ 16) × (length seen ≡ 16) × Seen seen (given senders) i × (within ≡ addressesWithin senders i)
 
 abbrev μ-loop : tie.MeasureT-loop
-μ-loop count senders within₀ i₀ within i = count - i
+μ-loop count senders within₀ seen₀ i₀ within seen i = count - i
 
 returns : tie.Need-returns Inv-loop μ-loop
 returns c =
@@ -25,7 +26,7 @@ returns c =
 
 loop-holds : tie.Need-loop-holds Inv-loop μ-loop
 unfolding addressesWithin
-loop-holds c = (search needs, search needs, refl)
+loop-holds c = (search needs, search needs, search needs, seen-none _ _, refl)
 
 cast-a : tie.Need-cast-a Inv-loop μ-loop
 cast-a c = omega arith
@@ -36,11 +37,23 @@ mul-a c = omega arith
 array-copy-out-a : tie.Need-array-copy-out-a Inv-loop μ-loop
 array-copy-out-a c = omega arith
 
+key-requires : tie.Need-key-requires Inv-loop μ-loop
+key-requires c κs = search needs
+
 within-requires : tie.Need-within-requires Inv-loop μ-loop
 within-requires c κs = search needs
 
 fresh-requires : tie.Need-fresh-requires Inv-loop μ-loop
 fresh-requires c κs = omega arith
+
+cast-seen : tie.Need-cast-seen Inv-loop μ-loop
+cast-seen c = omega arith
+
+mul-seen : tie.Need-mul-seen Inv-loop μ-loop
+mul-seen c = omega arith
+
+array-write-seen : tie.Need-array-write-seen Inv-loop μ-loop
+array-write-seen c = omega arith
 
 add-i : tie.Need-add-i Inv-loop μ-loop
 add-i c = omega arith
@@ -50,15 +63,22 @@ loop-less c = omega arith
 
 loop-again : tie.Need-loop-again Inv-loop μ-loop
 loop-again c =
-    let l = c .before .before .before .before .loop in
-    (omega arith, omega arith, addresses-more _ (l .i) _ _ _ (l .inv .2) (c .before .within .ensures) (c .fresh .ensures))
+    let within = c .before .before in
+    let key = within .before in
+    let l = key .before .before .before .loop in (
+      omega arith,
+      omega arith,
+      simp length-set (l .inv .2),
+      seen-more (l .seen) _ (l .i) _ (omega arith) (key .key .ensures) (l .inv .3),
+      addresses-more _ (l .i) _ _ _ (l .inv .4) (within .within .ensures) (new-seen _ _ _ _ _ (key .key .ensures) (l .inv .3) (c .fresh .ensures)),
+    )
 
 returns-2 : tie.Need-returns-2 Inv-loop μ-loop
 returns-2 c =
     let l = c .before .loop in
     let a = c .before .before .before .args in
     let e : l .i ≡ a .count = omega arith in
-    rw e at (l .inv .2)
+    rw e at (l .inv .4)
 
 pub addresses-within-spec : {M : Type 1} → statement M
 addresses-within-spec =
@@ -71,8 +91,12 @@ addresses-within-spec =
     cast-a
     mul-a
     array-copy-out-a
+    key-requires
     within-requires
     fresh-requires
+    cast-seen
+    mul-seen
+    array-write-seen
     add-i
     loop-less
     loop-again

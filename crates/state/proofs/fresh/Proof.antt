@@ -1,34 +1,31 @@
--- The first j addresses have been compared. Assumes nothing.
+-- The first j numbers have been compared. Assumes nothing.
 use Prim.Native.Nat.{_≤_, _-_}
 use mathlib.Core.Path.{_≡_, refl}
 use native.Mathlib.Omega.{arith}
 use native.Mathlib.Numerals.{add-one}
-use Rattle.state.specs.Limits.{newAmong, given}
+use Rattle.state.specs.Key.{newKey}
 use borrow.Author.Needs.{needs}
 use Rattle.state.proofs.fresh.Statement.{statement}
 use Rattle.state.proofs.fresh.Tie as tie
 
 abbrev Inv-loop : tie.InvT-loop
-Inv-loop k a seen new₀ j₀ new j = (j ≤ k) × (new ≡ newAmong (given seen) j a)
+Inv-loop seen k key new₀ j₀ new j = (j ≤ k) × (new ≡ newKey seen j key)
 
 abbrev μ-loop : tie.MeasureT-loop
-μ-loop k a seen new₀ j₀ new j = k - j
+μ-loop seen k key new₀ j₀ new j = k - j
 
 loop-holds : tie.Need-loop-holds Inv-loop μ-loop
-unfolding newAmong
+unfolding newKey
 loop-holds c = (search needs, refl)
 
-cast-b : tie.Need-cast-b Inv-loop μ-loop
-cast-b c = omega arith
+cast-new : tie.Need-cast-new Inv-loop μ-loop
+cast-new c = omega arith
 
-mul-b : tie.Need-mul-b Inv-loop μ-loop
-mul-b c = omega arith
+mul-new : tie.Need-mul-new Inv-loop μ-loop
+mul-new c = omega arith
 
-array-copy-out-b : tie.Need-array-copy-out-b Inv-loop μ-loop
-array-copy-out-b c = search needs
-
-same-requires : tie.Need-same-requires Inv-loop μ-loop
-same-requires c κs = search needs
+element-copy-out-new : tie.Need-element-copy-out-new Inv-loop μ-loop
+element-copy-out-new c = search needs
 
 add-j : tie.Need-add-j Inv-loop μ-loop
 add-j c = omega arith
@@ -37,10 +34,10 @@ loop-less : tie.Need-loop-less Inv-loop μ-loop
 loop-less c = omega arith
 
 loop-again : tie.Need-loop-again Inv-loop μ-loop
-unfolding newAmong
+unfolding newKey
 loop-again c =
-    let l = c .before .before .before .loop in
-    (omega arith, rw (add-one (l .j), l .inv .1, c .same .ensures))
+    let l = c .before .before .loop in
+    (omega arith, rw (add-one (l .j), l .inv .1))
 
 returns : tie.Need-returns Inv-loop μ-loop
 returns c =
@@ -56,10 +53,9 @@ fresh-spec =
     Inv-loop
     μ-loop
     loop-holds
-    cast-b
-    mul-b
-    array-copy-out-b
-    same-requires
+    cast-new
+    mul-new
+    element-copy-out-new
     add-j
     loop-less
     loop-again

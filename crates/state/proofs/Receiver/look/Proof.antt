@@ -1,13 +1,14 @@
 -- After i turns the first i senders have been judged, found and seen. Assumes nothing.
-use Prim.Native.Nat.{ℕ, _≤_, _<_, _-_}
-use mathlib.Core.Path.{_≡_, refl, sym, _∙_}
+use Prim.Native.Nat.{_≤_, _-_}
+use mathlib.Core.Path.{_≡_, refl, sym}
 use mathlib.Core.Bool.{_&&_, and-true}
 use native.Mathlib.Omega.{arith}
 use borrow.Author.Needs.{needs}
 use borrow.Author.Tests.{lt-leb}
 use lib.ListN.{length, length-set}
-use Rattle.state.specs.Limits.{sendersWithin, addressAt, given}
-use Rattle.state.specs.LimitsLaws.{new-ext, seen-more, senders-more, valid-few}
+use Rattle.state.specs.Limits.{sendersWithin, addressAt}
+use Rattle.state.specs.LimitsLaws.{senders-more, valid-few}
+use Rattle.state.specs.KeyLaws.{Seen, seen-none, seen-more, new-seen}
 use Rattle.state.specs.Table.{find, lookAt}
 use Rattle.state.specs.TableLaws.{find-more, look-few}
 use Rattle.state.specs.State.{firstWhere}
@@ -16,7 +17,7 @@ use Rattle.state.proofs.Receiver.look.Tie as tie
 
 abbrev Inv-loop : tie.InvT-loop
 Inv-loop a self count clock valid₀ at₀ seen₀ i₀ valid at seen i =
-    (i ≤ count) × (count ≤ 16) × (length seen ≡ 16) × ((j : ℕ) → j < i → given seen j ≡ addressAt (self .senders) j)
+    (i ≤ count) × (count ≤ 16) × (length seen ≡ 16) × Seen seen (addressAt (self .senders)) i
     × (valid ≡ valid₀ && sendersWithin clock (self .senders) i) × (at ≡ find (self .senders) a i)
 
 abbrev μ-loop : tie.MeasureT-loop
@@ -32,7 +33,7 @@ settings-within-requires c κs = search needs
 loop-holds : tie.Need-loop-holds Inv-loop μ-loop
 unfolding sendersWithin firstWhere
 loop-holds c =
-    (search needs, search needs, search needs, (λ j q. absurd (omega arith)), sym (and-true _), refl)
+    (search needs, search needs, search needs, seen-none _ _, sym (and-true _), refl)
 
 cast-s : tie.Need-cast-s Inv-loop μ-loop
 cast-s c = omega arith
@@ -42,6 +43,9 @@ mul-s c = omega arith
 
 element-copy-out-s : tie.Need-element-copy-out-s Inv-loop μ-loop
 element-copy-out-s c = omega arith
+
+key-requires : tie.Need-key-requires Inv-loop μ-loop
+key-requires c κs = search needs
 
 within-requires : tie.Need-within-requires Inv-loop μ-loop
 within-requires c κs = search needs
@@ -55,8 +59,8 @@ cast-seen c = omega arith
 mul-seen : tie.Need-mul-seen Inv-loop μ-loop
 mul-seen c = omega arith
 
-array-set-from-seen : tie.Need-array-set-from-seen Inv-loop μ-loop
-array-set-from-seen c = omega arith
+array-write-seen : tie.Need-array-write-seen Inv-loop μ-loop
+array-write-seen c = omega arith
 
 same-requires : tie.Need-same-requires Inv-loop μ-loop
 same-requires c κs = search needs
@@ -73,16 +77,18 @@ loop-less c = omega arith
 loop-again : tie.Need-loop-again Inv-loop μ-loop
 loop-again c =
     let new = c .before .before in
-    let here = new .before .before .before in
-    let l = here .before .before .loop in
-    let first = here .before .before .before in
-    let w = first .before .before .args .t1 in (
+    let within = new .before .before in
+    let key = within .before in
+    let l = key .before .before .before .before .loop in
+    let first = key .before .before .before .before .before in
+    let w = first .before .before .args .t1 in
+    let address = addressAt (w .senders) in (
       omega arith,
       omega arith,
       simp length-set (l .inv .2),
-      seen-more (l .seen) (w .senders) (l .i) (omega arith) (l .inv .3),
-      senders-more (w .clock) (w .senders) (l .i) _ (first .settings-within .result) _ _ (l .inv .4) (new .before .within .ensures) (new .fresh .ensures ∙ new-ext _ _ _ _ (l .inv .3)),
-      c .next-place .ensures ∙ find-more (w .senders) _ (l .i) _ _ (l .inv .5) (c .before .same .ensures),
+      seen-more (l .seen) address (l .i) _ (omega arith) (key .key .ensures) (l .inv .3),
+      senders-more (w .clock) (w .senders) (l .i) _ (first .settings-within .result) _ _ (l .inv .4) (within .within .ensures) (new-seen _ address _ _ _ (key .key .ensures) (l .inv .3) (new .fresh .ensures)),
+      find-more (w .senders) _ (l .i) _ _ _ (l .inv .5) (c .before .same .ensures) (c .next-place .ensures),
     )
 
 returns-2 : tie.Need-returns-2 Inv-loop μ-loop
@@ -104,11 +110,12 @@ look-spec =
     cast-s
     mul-s
     element-copy-out-s
+    key-requires
     within-requires
     fresh-requires
     cast-seen
     mul-seen
-    array-set-from-seen
+    array-write-seen
     same-requires
     next-place-requires
     add-i

@@ -1,0 +1,20 @@
+-- The empty state, or its table under the settings. Assumes nothing.
+use borrow.Author.Needs.{needs}
+use borrow.Author.Tests.{not-true, not-false}
+use Rattle.setup.specs.Settled.{settled}
+use Rattle.setup.proofs.settled.Statement.{statement}
+use Rattle.setup.proofs.settled.Tie as tie
+
+empty-requires : tie.Need-empty-requires
+empty-requires c κs = search needs
+
+returns : tie.Need-returns
+unfolding settled
+returns c = rw (c .before .empty .ensures, not-true (c .before .before .args .within) (c .if1 .taken))
+
+returns-2 : tie.Need-returns-2
+unfolding settled
+returns-2 c = rw (c .before .before .before .empty .ensures, not-false (c .before .before .before .before .args .within) (c .before .before .if1 .left))
+
+pub settled-spec : {M : Type 1} → statement M
+settled-spec = tie.close (tie.spec empty-requires returns returns-2)

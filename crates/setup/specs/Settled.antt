@@ -1,0 +1,37 @@
+-- A state on its way: the settings are written, nobody stands in the table yet. Where the setup is outside its limits it is the empty
+-- state, and stays it. Assumes nothing.
+use Prim.Native.Nat.{ℕ, _≤_}
+use mathlib.Core.Path.{_≡_, refl}
+use mathlib.Core.Bool.{Bool, true, false, cond}
+use mathlib.Core.List.{List}
+use native.Mathlib.Omega.{arith}
+use lib.Dec.{eqb}
+use lib.ListN.{replicate}
+use Rattle.rules.specs.declared.answers.Setup.{Setup}
+use Rattle.rules.specs.Setup.{newSenders, setupState}
+use Rattle.state.specs.declared.Address.{Address}
+use Rattle.state.specs.declared.Receiver.{Receiver}
+use Rattle.state.specs.State.{noSender, emptyReceiver}
+
+unfoldable pub settled : Setup → Bool → Receiver
+settled q within =
+    cond within (record { test = eqb (q .mode) 1; n1 = q .n1; t = q .t; clock = 0; count = q .count; senders = replicate 16 noSender }) emptyReceiver
+
+pub settled-few : (q : Setup) (within : Bool) → (within ≡ true → q .count ≤ 16) → settled q within .count ≤ 16
+unfolding settled
+settled-few q true few = few refl
+settled-few q false few = omega arith
+
+-- The first k senders are written in.
+abbrev pub seated : Receiver → List Address → ℕ → Receiver
+seated w l k = record { test = w .test; n1 = w .n1; t = w .t; clock = w .clock; count = w .count; senders = newSenders l k }
+
+pub seated-none : (q : Setup) (within : Bool) → settled q within ≡ seated (settled q within) (q .senders) 0
+unfolding settled newSenders
+seated-none q true = refl
+seated-none q false = refl
+
+pub seated-all : (q : Setup) (within : Bool) → seated (settled q within) (q .senders) (settled q within .count) ≡ cond within (setupState q) emptyReceiver
+unfolding settled newSenders setupState
+seated-all q true = refl
+seated-all q false = refl
