@@ -1,13 +1,13 @@
 // The calls of docs/EDGES.md that know no state, each with its lines: the cutter, the part that is handed over, the next field.
 //
 // No contract can say what is written, so these functions have none: they answer nothing, and nothing is lent to them to write.
+use codes::DataField;
+use codes::Node;
 use cutter::cutter;
 use fields::Kind;
 use fields::Next;
 use fields::next_field;
-use header::DataField;
 use header::Given;
-use header::Node;
 use octets::from;
 use octets::read1;
 use octets::read2;

@@ -9,7 +9,7 @@ use Rattle.ring.specs.Ring.{isNumber}
 use Rattle.header.specs.declared.Cut.{Cut}
 use Rattle.header.specs.declared.Given.{Given}
 use Rattle.header.specs.declared.Head.{Head}
-use Rattle.header.specs.Codes.{isDataField, isNode, isUser, isMode, isPri}
+use Rattle.codes.specs.Codes.{isDataField, isNode, isUser, isMode, isPri}
 use Rattle.header.specs.Head.{header}
 use Rattle.header.specs.Places.{headerSize}
 use Rattle.cutter.specs.declared.Cutting.{Cutting}

@@ -13,8 +13,8 @@ use Rattle.octets.specs.Run.{run}
 use Rattle.ring.specs.Ring.{OnRing, isNumber}
 use Rattle.ring.specs.RingLaws.{on-ring}
 use Rattle.header.specs.declared.Given.{Given}
-use Rattle.header.specs.Codes.{isDataField, isNode, isUser, isMode, isPri}
-use Rattle.header.specs.CodesLaws.{user-code}
+use Rattle.codes.specs.Codes.{isDataField, isNode, isUser, isMode, isPri}
+use Rattle.codes.specs.CodesLaws.{user-code}
 use Rattle.header.specs.Head.{value, header, headOf, isFixed}
 use Rattle.header.specs.HeadLaws.{Fits, read-back, written-fixed, length-header}
 use Rattle.header.specs.Places.{Field, place, headerSize}

@@ -3,11 +3,11 @@
 // What is done with an answer stands apart from the call: a function that returns a state is the faster to prove the less it does.
 use crate::damage::with_sender;
 use crate::damage::with_settings;
+use codes::DataField;
+use codes::Node;
 use cuts::cut_call;
 use cuts::field_call;
 use cuts::part_call;
-use header::DataField;
-use header::Node;
 use octets::from;
 use octets::read1;
 use octets::read2;

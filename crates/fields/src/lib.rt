@@ -4,8 +4,8 @@
 ghost use mathlib.Core.Path.{_≡_};
 ghost use Prim.Native.Nat.{_≤_};
 ghost use Rattle.fields.specs.Field.{kindOf, isBad, nextOf, contentsOf, setupOf, addressIn, sendersOf, clockOf};
-use header::DataField;
-use header::Node;
+use codes::DataField;
+use codes::Node;
 use octets::from;
 use octets::read1;
 use octets::read2;

@@ -3,7 +3,3 @@ pub mod LayoutLaws
 pub mod Places
 pub mod Head
 pub mod HeadLaws
-pub mod Codes
-pub mod CodesLaws
-pub mod AlivePlaces
-pub mod Alive

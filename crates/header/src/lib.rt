@@ -1,19 +1,18 @@
 // The ADP header (5.1): read from a packet and written into a buffer, by value.
 //
 // Every function is total. An octet past the end of a packet reads as 0, and a buffer that is shorter than a header stays
-// as it is. Which values are admitted is said in codes.rt; reading and writing take any.
+// as it is. Which values are admitted is said in `codes`; reading and writing take any.
 ghost use mathlib.Core.Path.{_≡_};
 ghost use lib.Dec.{eqb};
-ghost use Rattle.header.specs.Codes.{isDataField, isNode};
 ghost use Rattle.header.specs.Head.{valueAt, givenOf, cutOf, headOf, headed, isFixed};
 ghost use Rattle.header.specs.HeadLaws.{addressRows, numberRows, pieceRows};
 ghost use Rattle.header.specs.LayoutLaws.{fill};
 ghost use Rattle.header.specs.Places.Field.{inqId};
 
-pub mod codes;
 pub mod places;
-pub mod signal;
 
+use codes::DataField;
+use codes::Node;
 use octets::lay;
 use octets::read1;
 use octets::read2;
@@ -29,12 +28,6 @@ pub const SIZE: usize = 64;
 
 // "NUXM" in ASCII
 const NUXM: u32 = 0x4e55_584d;
-
-// 1 to 255
-pub struct DataField(pub u8);
-
-// 1 to 4,095
-pub struct Node(pub u16);
 
 // What the caller gives for every piece of a message: all of Table 7 but the fixed fields and what the cut makes.
 pub struct Given {
@@ -60,22 +53,6 @@ pub struct Cut {
 pub struct Head {
     pub given: Given,
     pub cut: Cut,
-}
-
-impl DataField {
-    pub fn within(self) -> bool
-        ensures { λ r. ⌜ r ≡ isDataField (self .0) ⌝ }
-    {
-        (1 <= self.0) & (self.0 <= 255)
-    }
-}
-
-impl Node {
-    pub fn within(self) -> bool
-        ensures { λ r. ⌜ r ≡ isNode (self .0) ⌝ }
-    {
-        (1 <= self.0) & (self.0 <= 4_095)
-    }
 }
 
 // ---- reading

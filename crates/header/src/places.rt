@@ -39,13 +39,3 @@ pub const TBN: usize = 57;
 pub const BSIZE: usize = 58;
 
 pub const FUI: usize = 60;
-
-// Of the alive header, what is looked at: the table of specs/AlivePlaces.antt.
-
-pub const AL_TM_OUT: usize = 84;
-
-pub const AL_MODE: usize = 90;
-
-pub const AL_PROTOCOL: usize = 91;
-
-pub const AL_VER: usize = 105;

@@ -11,7 +11,7 @@ use lib.Seq.{getD-set-same, getD-set-other}
 use borrow.Author.Tests.{ltb-true, eqb-true, not-false}
 use Rattle.octets.specs.Split.{eq-or-ne}
 use Rattle.header.specs.declared.Head.{Head}
-use Rattle.header.specs.Alive.{bodyOf}
+use Rattle.signal.specs.Alive.{bodyOf}
 use Rattle.header.specs.Head.{headOf}
 use Rattle.state.specs.declared.Message.{Message}
 use Rattle.state.specs.declared.Sender.{Sender}

@@ -6,10 +6,10 @@ use mathlib.Core.List.{List, [], _∷_}
 use lib.Dec.{eqb, leb}
 use lib.ListN.{length}
 use Rattle.header.specs.declared.Head.{Head}
-use Rattle.header.specs.declared.signal.Body.{Body}
-use Rattle.header.specs.Alive.{bodyOf, isBody, groupOf}
-use Rattle.header.specs.AlivePlaces.{aliveSize}
-use Rattle.header.specs.Codes.{isAlive, isMode, isPri}
+use Rattle.signal.specs.declared.Body.{Body}
+use Rattle.signal.specs.Alive.{bodyOf, isBody, groupOf}
+use Rattle.signal.specs.AlivePlaces.{aliveSize}
+use Rattle.codes.specs.Codes.{isAlive, isMode, isPri}
 use Rattle.header.specs.Head.{headOf, isFixed}
 use Rattle.state.specs.declared.Heard.{Heard}
 use Rattle.state.specs.declared.Sender.{Sender}

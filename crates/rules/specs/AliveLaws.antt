@@ -10,8 +10,8 @@ use lib.ListN.{length}
 use borrow.Author.Tests.{ne-eqb, leb-false, not-false}
 use Rattle.octets.specs.Split.{true-or-false}
 use Rattle.header.specs.declared.Head.{Head}
-use Rattle.header.specs.declared.signal.Body.{Body}
-use Rattle.header.specs.Alive.{bodyOf}
+use Rattle.signal.specs.declared.Body.{Body}
+use Rattle.signal.specs.Alive.{bodyOf}
 use Rattle.header.specs.Head.{headOf}
 use Rattle.state.specs.declared.Address.{Address}
 use Rattle.state.specs.declared.Look.{Look}

@@ -5,7 +5,7 @@ use mathlib.Core.Bool.{Bool, true, false, not, cond, _&&_, _||_}
 use mathlib.Core.List.{List, [], _∷_, _++_, foldl, List·Memᴰ}
 use lib.Dec.{ltb}
 use lib.ListN.{length}
-use Rattle.header.specs.Alive.{bodyOf}
+use Rattle.signal.specs.Alive.{bodyOf}
 use Rattle.header.specs.Head.{headOf}
 use Rattle.state.specs.declared.Address.{Address}
 use Rattle.state.specs.Limits.{sameAddress, clockMost}

@@ -12,8 +12,8 @@ use lib.Seq.{getD-set-same}
 use borrow.Author.Tests.{eqb-true, lt-leb, leb-false, not-true}
 use Rattle.octets.specs.Split.{true-or-false, cond-case, and-left, and-right}
 use Rattle.header.specs.declared.Head.{Head}
-use Rattle.header.specs.declared.signal.Body.{Body}
-use Rattle.header.specs.Alive.{bodyOf}
+use Rattle.signal.specs.declared.Body.{Body}
+use Rattle.signal.specs.Alive.{bodyOf}
 use Rattle.header.specs.Head.{headOf}
 use Rattle.state.specs.declared.Address.{Address}
 use Rattle.state.specs.declared.Heard.{Heard}

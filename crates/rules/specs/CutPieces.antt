@@ -11,7 +11,7 @@ use borrow.Author.Tests.{eq-eqb, le-ltb}
 use Rattle.octets.specs.Split.{and-left, and-right}
 use Rattle.ring.specs.Ring.{isNumber}
 use Rattle.header.specs.declared.Given.{Given}
-use Rattle.header.specs.Codes.{isDataField, isNode, isUser, isMode, isPri}
+use Rattle.codes.specs.Codes.{isDataField, isNode, isUser, isMode, isPri}
 use Rattle.header.specs.Head.{header, headOf, isFixed}
 use Rattle.header.specs.HeadLaws.{length-header}
 use Rattle.header.specs.Places.{headerSize}

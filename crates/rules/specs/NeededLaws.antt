@@ -16,7 +16,7 @@ use Rattle.ring.specs.declared.Verdict.{Verdict}
 use Rattle.ring.specs.Check.{check, rule4, isRepeat}
 use Rattle.ring.specs.Ring.{remainder, newer}
 use Rattle.header.specs.declared.Cut.{Cut}
-use Rattle.header.specs.Codes.{codeOf}
+use Rattle.codes.specs.Codes.{codeOf}
 use Rattle.header.specs.Head.{header, headOf, isFixed}
 use Rattle.header.specs.Layout.{layout, tabulate, octetOf}
 use Rattle.header.specs.Places.{headerSize}

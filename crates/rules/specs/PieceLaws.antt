@@ -16,7 +16,7 @@ use Rattle.ring.specs.Ring.{OnRing, isNumber, newer}
 use Rattle.ring.specs.RingLaws.{on-ring}
 use Rattle.header.specs.declared.Cut.{Cut}
 use Rattle.header.specs.declared.Head.{Head}
-use Rattle.header.specs.Codes.{isUser, isMode, isPri}
+use Rattle.codes.specs.Codes.{isUser, isMode, isPri}
 use Rattle.header.specs.Head.{headOf, isFixed}
 use Rattle.header.specs.Places.{headerSize}
 use Rattle.cutter.specs.Cutter.{cutFor}

@@ -5,7 +5,7 @@ use mathlib.Core.Bool.{Bool, true, false, not, cond}
 use Prim.Native.Nat.{ℕ}
 use lib.Dec.{eqb}
 use Rattle.header.specs.declared.Head.{Head}
-use Rattle.header.specs.declared.signal.Body.{Body}
+use Rattle.signal.specs.declared.Body.{Body}
 use Rattle.state.specs.declared.Address.{Address}
 use Rattle.state.specs.declared.Last.{Last}
 use Rattle.state.specs.declared.Message.{Message}

@@ -11,9 +11,9 @@ use lib.ListN.{getD, set}
 use borrow.Author.Tests.{le-leb, ltb-false, eqb-true, not-true}
 use Rattle.octets.specs.Split.{true-or-false, cond-case, both, and-left, and-right}
 use Rattle.ring.specs.Ring.{isNumber}
-use Rattle.header.specs.declared.signal.Body.{Body}
-use Rattle.header.specs.Alive.{bodyOf}
-use Rattle.header.specs.Codes.{within, isUser, isMode, isPri}
+use Rattle.signal.specs.declared.Body.{Body}
+use Rattle.signal.specs.Alive.{bodyOf}
+use Rattle.codes.specs.Codes.{within, isUser, isMode, isPri}
 use Rattle.header.specs.Head.{headOf, isFixed}
 use Rattle.state.specs.declared.Address.{Address}
 use Rattle.state.specs.declared.Sender.{Sender}

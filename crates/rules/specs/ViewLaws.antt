@@ -14,8 +14,8 @@ use Rattle.octets.specs.Run.{run}
 use Rattle.octets.specs.RunLaws.{length-run, run-before, run-behind, run-laid-within}
 use Rattle.octets.specs.Split.{lt-or-le, eq-or-ne, true-or-false, never-both, cond-case, both, and-left, and-right}
 use Rattle.header.specs.declared.Head.{Head}
-use Rattle.header.specs.declared.signal.Body.{Body}
-use Rattle.header.specs.Alive.{bodyOf}
+use Rattle.signal.specs.declared.Body.{Body}
+use Rattle.signal.specs.Alive.{bodyOf}
 use Rattle.header.specs.Head.{headOf}
 use Rattle.header.specs.Places.{headerSize}
 use Rattle.cut.specs.Possible.{possible, place, ownLength}

@@ -15,11 +15,11 @@ ghost use Rattle.state.specs.State.{emptyReceiver};
 pub mod map;
 
 use crate::map::is_partial;
+use codes::DataField;
+use codes::Node;
+use codes::code_of;
 use cut::possible::several;
-use header::DataField;
 use header::Head;
-use header::Node;
-use header::codes::code_of;
 use ring::M;
 use ring::Number;
 use ring::Version;

@@ -1,0 +1,60 @@
+-- The places of the alive header (5.3, Table 8), counted from the start of the PDU: the one table. All else uses only what is
+-- proved of it here: together with the ADP header's places no two overlap, each ends by 128, and they cover all 128.
+-- docs/HEADER.md says where each comes from.
+use mathlib.Core.Path.{_≡_, refl}
+use mathlib.Core.Bool.{true}
+use mathlib.Core.List.{List, [], _∷_, _++_}
+use Prim.Native.Nat.{ℕ}
+use Rattle.header.specs.Layout.{Row, apartFrom, apart, endsBy, held, covers}
+use Rattle.header.specs.Places.{Field, rows}
+
+-- The fields of Table 8, al_ipaddr in its two parts.
+pub data AliveField : Type 0 where
+  ndName osName alTmOut msgSerno alMode alProtocol alFu1 chgTime ipaddr0 ipaddr1 alVer alFu2 reserved : AliveField
+
+-- Where a field starts, and its size.
+abbrev pub alivePlace : AliveField → ℕ × ℕ
+alivePlace ndName = (64, 10)
+alivePlace osName = (74, 10)
+alivePlace alTmOut = (84, 4)
+alivePlace msgSerno = (88, 2)
+alivePlace alMode = (90, 1)
+alivePlace alProtocol = (91, 1)
+alivePlace alFu1 = (92, 1)
+alivePlace chgTime = (93, 4)
+alivePlace ipaddr0 = (97, 4)
+alivePlace ipaddr1 = (101, 4)
+alivePlace alVer = (105, 1)
+alivePlace alFu2 = (106, 15)
+alivePlace reserved = (121, 7)
+
+-- "PDU too short (64; alive 128)"
+abbrev pub aliveSize : ℕ
+aliveSize = 128
+
+abbrev pub aliveRow : AliveField → ℕ → Row
+aliveRow f x = record { start = alivePlace f .0; size = alivePlace f .1; value = x }
+
+-- The alive header's part of the table, with a number for each field,
+abbrev pub bodyRows : (AliveField → ℕ) → List Row
+bodyRows v =
+    aliveRow ndName (v ndName) ∷ aliveRow osName (v osName) ∷ aliveRow alTmOut (v alTmOut) ∷ aliveRow msgSerno (v msgSerno)
+    ∷ aliveRow alMode (v alMode) ∷ aliveRow alProtocol (v alProtocol) ∷ aliveRow alFu1 (v alFu1) ∷ aliveRow chgTime (v chgTime)
+    ∷ aliveRow ipaddr0 (v ipaddr0) ∷ aliveRow ipaddr1 (v ipaddr1) ∷ aliveRow alVer (v alVer) ∷ aliveRow alFu2 (v alFu2)
+    ∷ aliveRow reserved (v reserved) ∷ []
+
+-- and behind the ADP header's.
+abbrev pub headBodyRows : (Field → ℕ) → (AliveField → ℕ) → List Row
+headBodyRows v u = rows v ++ bodyRows u
+
+pub alive-apart : (v : Field → ℕ) (u : AliveField → ℕ) → apart (headBodyRows v u) ≡ true
+unfolding apart apartFrom
+alive-apart v u = refl
+
+pub alive-end : (v : Field → ℕ) (u : AliveField → ℕ) → endsBy aliveSize (headBodyRows v u) ≡ true
+unfolding endsBy
+alive-end v u = refl
+
+pub alive-cover : (v : Field → ℕ) (u : AliveField → ℕ) → covers aliveSize (headBodyRows v u) ≡ true
+unfolding covers held
+alive-cover v u = refl

@@ -1,0 +1,2 @@
+pub mod AlivePlaces
+pub mod Alive
