@@ -2,11 +2,11 @@
 ghost use mathlib.Core.Path.{_≡_};
 ghost use Rattle.rules.specs.Question.{questionAnswer};
 ghost use Rattle.rules.specs.QuestionLaws.{piecesOf};
+use map::holds;
 use rules::answers::Missing;
 use state::Address;
 use state::Receiver;
 use state::Sender;
-use state::map::holds;
 
 pub fn question(state: Receiver) -> Missing
     ensures { λ r. ⌜ r ≡ questionAnswer state ⌝ }

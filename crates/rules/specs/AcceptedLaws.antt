@@ -13,11 +13,11 @@ use Rattle.octets.specs.Split.{eq-or-ne, true-or-false, cond-case, and-left}
 use Rattle.header.specs.declared.Head.{Head}
 use Rattle.header.specs.Head.{headOf}
 use Rattle.cut.specs.PossibleLaws.{possible-facts, several-facts}
+use Rattle.map.specs.Map.{bit, pieceBit, fullMap}
+use Rattle.map.specs.MapLaws.{bit-keep, bit-zero, full-bit, holds-not, ones-set, ones-some}
 use Rattle.state.specs.declared.Receiver.{Receiver}
 use Rattle.state.specs.declared.Sender.{Sender}
 use Rattle.state.specs.Limits.{messageWithin}
-use Rattle.state.specs.Map.{bit, pieceBit, fullMap}
-use Rattle.state.specs.MapLaws.{bit-keep, bit-zero, full-bit, holds-not, ones-set, ones-some}
 use Rattle.state.specs.State.{senderAt}
 use Rattle.state.specs.Table.{found}
 use Rattle.state.specs.WithinLaws.{MessageWithin, message-facts}

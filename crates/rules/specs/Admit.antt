@@ -10,6 +10,7 @@ use Rattle.ring.specs.Check.{check, isRepeat, isUnchecked}
 use Rattle.ring.specs.Ring.{newer}
 use Rattle.header.specs.declared.Head.{Head}
 use Rattle.cut.specs.Possible.{possible, unit, messageLength}
+use Rattle.map.specs.Map.{holds, pieceBit, fullMap}
 use Rattle.state.specs.declared.Last.{Last}
 use Rattle.state.specs.declared.Message.{Message}
 use Rattle.state.specs.declared.Sender.{Sender}
@@ -18,7 +19,6 @@ use Rattle.rules.specs.declared.answers.Dropped.{Dropped}
 use Rattle.rules.specs.declared.answers.Outcome.{Outcome}
 use Rattle.rules.specs.declared.answers.Outcome.the-variants.{Refused, Stored, Delivered}
 use Rattle.rules.specs.First.{Row, row, first}
-use Rattle.state.specs.Map.{holds, pieceBit, fullMap}
 use Rattle.state.specs.State.{noMessage}
 
 -- ---- the open message and the PDU

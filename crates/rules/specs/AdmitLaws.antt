@@ -9,13 +9,13 @@ use Rattle.octets.specs.Split.{cond-case, never-both}
 use Rattle.ring.specs.Check.{isRepeat}
 use Rattle.header.specs.declared.Head.{Head}
 use Rattle.cut.specs.Possible.{possible}
+use Rattle.map.specs.Map.{holds}
 use Rattle.state.specs.declared.Sender.{Sender}
 use Rattle.rules.specs.declared.answers.Admission.{Admission}
 use Rattle.rules.specs.declared.answers.Outcome.{Outcome}
 use Rattle.rules.specs.Admit.{rejoins, sameCut, verdictOf, senderRows, fills, admitted, notAdmitted, admission, refusedNumber}
 use Rattle.rules.specs.First.{first}
 use Rattle.rules.specs.FirstLaws.{first-none}
-use Rattle.state.specs.Map.{holds}
 
 -- An admitted PDU has a possible cut, is no repeat, is not older than the open message, has its cut if it belongs to it, and
 -- is a new piece of it.

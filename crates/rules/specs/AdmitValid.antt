@@ -14,13 +14,13 @@ use Rattle.header.specs.declared.Head.{Head}
 use Rattle.codes.specs.Codes.{isUser}
 use Rattle.cut.specs.Possible.{unit, messageLength}
 use Rattle.cut.specs.PossibleLaws.{possible-facts, possible-several, several-of}
+use Rattle.map.specs.Map.{fullMap, pieceBit}
+use Rattle.map.specs.MapLaws.{bit-zero, set-below, holds-not}
 use Rattle.state.specs.declared.Last.{Last}
 use Rattle.state.specs.declared.Sender.{Sender}
 use Rattle.rules.specs.Admit.{rejoins, sameCut, verdictOf, mapAfter, fills, lastBy, closed, messageOf, opened, senderAfter}
 use Rattle.rules.specs.AdmitLaws.{Admitted}
 use Rattle.state.specs.Limits.{lastWithin}
-use Rattle.state.specs.Map.{fullMap, pieceBit}
-use Rattle.state.specs.MapLaws.{bit-zero, set-below, holds-not}
 use Rattle.state.specs.WithinLaws.{MessageWithin, message-facts, message-of, SenderWithin, Stays}
 
 -- A number that 13 lets pass is within the limits of a last number, under any version.

@@ -13,6 +13,7 @@ use Rattle.octets.specs.Split.{eq-or-ne}
 use Rattle.header.specs.declared.Head.{Head}
 use Rattle.signal.specs.Alive.{bodyOf}
 use Rattle.header.specs.Head.{headOf}
+use Rattle.map.specs.Map.{lowestMissing}
 use Rattle.state.specs.declared.Message.{Message}
 use Rattle.state.specs.declared.Sender.{Sender}
 use Rattle.state.specs.declared.Receiver.{Receiver}
@@ -30,7 +31,6 @@ use Rattle.rules.specs.First.{first}
 use Rattle.rules.specs.FirstLaws.{first-none, first-behind, numbered}
 use Rattle.state.specs.Limits.{senderWithin, addressAt, sendersWithin, valid}
 use Rattle.state.specs.LimitsLaws.{new-ext}
-use Rattle.state.specs.Map.{lowestMissing}
 use Rattle.state.specs.Table.{found}
 use Rattle.rules.specs.Message.{packetRows, messageRows, messageNumber, whereBy, withSender, taken, refused, messageAnswer, messageStorage}
 use Rattle.rules.specs.MessageLaws.{passed-facts, taken-facts}

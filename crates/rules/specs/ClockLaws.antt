@@ -12,6 +12,8 @@ use lib.ListN.{length, getD, set, length-set}
 use lib.Pow.{pow-mono, pow-lt}
 use lib.Seq.{getD-set-other}
 use Rattle.octets.specs.Split.{true-or-false, cond-case, eq-or-ne}
+use Rattle.map.specs.Map.{bit}
+use Rattle.map.specs.MapLaws.{bit-set, bit-keep, bit-above}
 use Rattle.state.specs.declared.Sender.{Sender}
 use Rattle.state.specs.declared.Receiver.{Receiver}
 use Rattle.rules.specs.declared.answers.Call.the-variants.{Done}
@@ -20,8 +22,6 @@ use Rattle.rules.specs.Clock.{clockRows, drops, dies, aged, agedSenders,
 use Rattle.rules.specs.First.{row, first}
 use Rattle.rules.specs.FirstLaws.{first-here, first-later}
 use Rattle.state.specs.Limits.{valid, clockMost}
-use Rattle.state.specs.Map.{bit}
-use Rattle.state.specs.MapLaws.{bit-set, bit-keep, bit-above}
 use Rattle.state.specs.State.{noSender, senderAt}
 use Rattle.state.specs.WithinLaws.{written-place, valid-length}
 

@@ -16,12 +16,12 @@ use Rattle.header.specs.Places.{headerSize}
 use Rattle.cutter.specs.Cutter.{cutFor}
 use Rattle.cut.specs.Pieces.{mostOctets, pieces, piece}
 use Rattle.cut.specs.Possible.{isUnit}
+use Rattle.map.specs.Map.{bit}
 use Rattle.state.specs.declared.Address.{Address}
 use Rattle.state.specs.declared.Last.{Last}
 use Rattle.state.specs.declared.Receiver.{Receiver}
 use Rattle.state.specs.declared.Sender.{Sender}
 use Rattle.state.specs.Limits.{addressAt}
-use Rattle.state.specs.Map.{bit}
 use Rattle.state.specs.State.{senderAt}
 use Rattle.rules.specs.declared.answers.Outcome.{Outcome}
 use Rattle.rules.specs.declared.answers.Outcome.the-variants.{Refused, Stored, Delivered}

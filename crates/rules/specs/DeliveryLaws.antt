@@ -13,12 +13,12 @@ use Rattle.ring.specs.Check.{isRepeat}
 use Rattle.header.specs.Head.{headOf}
 use Rattle.cut.specs.Pieces.{pieces, piece, joined}
 use Rattle.cut.specs.PiecesLaws.{pieces-join, joined-same}
+use Rattle.map.specs.Map.{bit}
+use Rattle.map.specs.MapLaws.{piece-some}
 use Rattle.state.specs.declared.Last.{Last}
 use Rattle.state.specs.declared.Receiver.{Receiver}
 use Rattle.state.specs.declared.Sender.{Sender}
 use Rattle.state.specs.Limits.{addressAt, valid, settingsOf, isN1, isDropTime, clockMost, sendersMost}
-use Rattle.state.specs.Map.{bit}
-use Rattle.state.specs.MapLaws.{piece-some}
 use Rattle.state.specs.State.{senderAt}
 use Rattle.state.specs.WithinLaws.{valid-settings, valid-sender, message-facts}
 use Rattle.rules.specs.declared.answers.Outcome.the-variants.{Delivered}

@@ -21,11 +21,11 @@ use Rattle.cut.specs.Pieces.{pieces, piecePlace, pieceLength, piece, joined}
 use Rattle.cut.specs.PiecesLaws.{piece-end, length-most, length-only, pieces-join, times}
 use Rattle.cut.specs.Possible.{possible, messageLength, ownLength, unit, place}
 use Rattle.cut.specs.PossibleLaws.{Possible, possible-facts, Several, possible-several}
+use Rattle.map.specs.Map.{bit, holds, pieceBit, fullMap}
+use Rattle.map.specs.MapLaws.{bit-set, bit-keep, bit-zero, set-below, full-bit, holds-not}
 use Rattle.state.specs.declared.Message.{Message}
 use Rattle.state.specs.declared.Sender.{Sender}
 use Rattle.state.specs.Limits.{clockMost}
-use Rattle.state.specs.Map.{bit, holds, pieceBit, fullMap}
-use Rattle.state.specs.MapLaws.{bit-set, bit-keep, bit-zero, set-below, full-bit, holds-not}
 use Rattle.rules.specs.Admit.{rejoins, sameCut, mapAfter, fills, messageOf, opened, senderAfter, admitted}
 use Rattle.rules.specs.AdmitLaws.{Admitted, admitted-facts}
 use Rattle.rules.specs.Clock.{drops, aged}

@@ -23,9 +23,9 @@ use Rattle.header.specs.Places.{headerSize}
 use Rattle.cutter.specs.Cutter.{cutFor, pdu}
 use Rattle.cut.specs.Pieces.{mostOctets, pieces, pieceLength, piece}
 use Rattle.cut.specs.Possible.{unit, isUnit, frontPossible, lastPossible, severalPossible, possible}
+use Rattle.map.specs.Map.{bit}
 use Rattle.state.specs.declared.Address.{Address}
 use Rattle.state.specs.Limits.{lastWithin, messageWithin, senderWithin, newAmong, addressesWithin, addressAt, sendersWithin, settingsOf, valid}
-use Rattle.state.specs.Map.{bit}
 use Rattle.state.specs.State.{senderAt, firstWhere}
 use Rattle.rules.specs.declared.answers.Outcome.{Outcome}
 use Rattle.rules.specs.declared.answers.Outcome.the-variants.{Refused, Stored, Delivered}

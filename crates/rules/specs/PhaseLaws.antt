@@ -15,10 +15,10 @@ use Rattle.ring.specs.CheckLaws.{is-checked, check-again}
 use Rattle.ring.specs.RingLaws.{not-newer}
 use Rattle.header.specs.declared.Head.{Head}
 use Rattle.header.specs.Head.{headOf}
+use Rattle.map.specs.Map.{bit, holds, pieceBit, fullMap}
+use Rattle.map.specs.MapLaws.{bit-set, bit-keep, bit-zero, set-below, full-bit, full-only, holds-not}
 use Rattle.state.specs.declared.Last.{Last}
 use Rattle.state.specs.declared.Sender.{Sender}
-use Rattle.state.specs.Map.{bit, holds, pieceBit, fullMap}
-use Rattle.state.specs.MapLaws.{bit-set, bit-keep, bit-zero, set-below, full-bit, full-only, holds-not}
 use Rattle.rules.specs.declared.answers.Outcome.the-variants.{Refused, Stored, Delivered}
 use Rattle.rules.specs.Admit.{fills, mapAfter, verdictOf, messageOf, opened, closed, lastBy, senderAfter, admitted}
 use Rattle.rules.specs.Clock.{drops, aged}

@@ -24,10 +24,10 @@ use Rattle.cutter.specs.CutterLaws.{Within, length-piece, unit-same, cut-possib
 use Rattle.cut.specs.Pieces.{mostOctets, leastUnit, mostUnit, pieces, piece}
 use Rattle.cut.specs.PiecesLaws.{pieces-one, pieces-some}
 use Rattle.cut.specs.Possible.{possible, messageLength, ownLength, unit, isUnit}
+use Rattle.map.specs.Map.{holds, pieceBit, fullMap}
+use Rattle.map.specs.MapLaws.{holds-zero}
 use Rattle.state.specs.declared.Message.{Message}
 use Rattle.state.specs.declared.Sender.{Sender}
-use Rattle.state.specs.Map.{holds, pieceBit, fullMap}
-use Rattle.state.specs.MapLaws.{holds-zero}
 use Rattle.rules.specs.Admit.{rejoins, sameCut, verdictOf, senderRows, mapAfter, fills}
 use Rattle.rules.specs.Delivery.{Sent, count, Numbered, PieceOf, isOpen, verdictFor}
 use Rattle.rules.specs.First.{first}

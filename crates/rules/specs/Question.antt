@@ -4,12 +4,12 @@ use Prim.Native.Nat.{ℕ}
 use mathlib.Core.Bool.{not, cond}
 use mathlib.Core.List.{List, [], _∷_}
 use lib.Dec.{eqb, ltb}
+use Rattle.map.specs.Map.{lowestMissing}
 use Rattle.state.specs.declared.Receiver.{Receiver}
 use Rattle.rules.specs.declared.answers.Missing.{Missing}
 use Rattle.rules.specs.declared.answers.Missing.the-variants.{Refused, NoneOpen, Piece}
 use Rattle.rules.specs.First.{Row, row, first}
 use Rattle.state.specs.Limits.{valid}
-use Rattle.state.specs.Map.{lowestMissing}
 use Rattle.state.specs.State.{senderAt, firstWhere}
 
 -- "the question 9"

@@ -10,14 +10,14 @@ use lib.ListN.{getD}
 use borrow.Author.Tests.{lt-ltb, le-ltb, ltb-true, eqb-true}
 use Rattle.octets.specs.Split.{eq-or-ne, true-or-false}
 use Rattle.cut.specs.PossibleLaws.{several-facts, several-most}
+use Rattle.map.specs.Map.{bit, holds, lowest}
+use Rattle.map.specs.MapLaws.{full-only, lowest-first, holds-not}
 use Rattle.state.specs.declared.Message.{Message}
 use Rattle.state.specs.declared.Sender.{Sender}
 use Rattle.state.specs.declared.Receiver.{Receiver}
 use Rattle.rules.specs.declared.answers.Missing.the-variants.{Refused, NoneOpen, Piece}
 use Rattle.rules.specs.First.{first}
 use Rattle.state.specs.Limits.{valid}
-use Rattle.state.specs.Map.{bit, holds, lowest}
-use Rattle.state.specs.MapLaws.{full-only, lowest-first, holds-not}
 use Rattle.rules.specs.Question.{firstOpen, questionAnswer}
 use Rattle.state.specs.State.{noSender, senderAt, firstWhere}
 use Rattle.state.specs.WithinLaws.{MessageWithin, message-facts, SenderWithin, valid-sender}

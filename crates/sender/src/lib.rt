@@ -8,11 +8,15 @@ ghost use mathlib.Core.List.{[], _∷_};
 ghost use Rattle.cut.specs.Possible.{possible as isPossible};
 ghost use Rattle.rules.specs.Admit.{rejoins as isRejoining, sameCut, senderRows, mapAfter, droppedBy, lastBy, closed, messageOf, opened as isOpened, admitted, admission, verdictOf};
 ghost use Rattle.rules.specs.First.{row, first};
-ghost use Rattle.state.specs.Map.{holds as holdsOf};
+ghost use Rattle.map.specs.Map.{holds as holdsOf};
 use cut::possible::message_length;
 use cut::possible::possible;
 use cut::possible::unit;
 use header::Head;
+use map::held;
+use map::holds;
+use map::is_full;
+use map::marked;
 use ring::Verdict;
 use ring::newer;
 use ring::number_check;
@@ -22,10 +26,6 @@ use rules::answers::Outcome;
 use state::Last;
 use state::Message;
 use state::Sender;
-use state::map::held;
-use state::map::holds;
-use state::map::is_full;
-use state::map::marked;
 
 // What the record makes of the PDU with this header, at a node with these settings and this clock.
 pub fn admit(s: Sender, test: bool, n1: u16, clock: u64, h: Head) -> Admission

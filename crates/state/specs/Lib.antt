@@ -1,6 +1,4 @@
 pub mod State
-pub mod Map
-pub mod MapLaws
 pub mod Limits
 pub mod LimitsLaws
 pub mod Key

@@ -9,12 +9,12 @@ use lib.ListN.{getD}
 use Rattle.ring.specs.Ring.{M, isNumber}
 use Rattle.codes.specs.Codes.{within, isDataField, isNode, isUser}
 use Rattle.cut.specs.Possible.{severalPossible}
+use Rattle.map.specs.Map.{isPartial}
 use Rattle.state.specs.declared.Last.{Last}
 use Rattle.state.specs.declared.Message.{Message}
 use Rattle.state.specs.declared.Address.{Address}
 use Rattle.state.specs.declared.Sender.{Sender}
 use Rattle.state.specs.declared.Receiver.{Receiver}
-use Rattle.state.specs.Map.{isPartial}
 use Rattle.state.specs.State.{noAddress, noSender}
 
 -- "N1 (1 to 1,024), the drop time T in ms (1 to 600,000)"

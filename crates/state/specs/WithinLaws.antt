@@ -14,13 +14,13 @@ use Rattle.octets.specs.Split.{lt-or-le, eq-or-ne, and-left, and-right}
 use Rattle.ring.specs.Ring.{isNumber}
 use Rattle.codes.specs.Codes.{isUser}
 use Rattle.cut.specs.Possible.{severalPossible}
+use Rattle.map.specs.Map.{fullMap}
 use Rattle.state.specs.declared.Address.{Address}
 use Rattle.state.specs.declared.Message.{Message}
 use Rattle.state.specs.declared.Sender.{Sender}
 use Rattle.state.specs.declared.Receiver.{Receiver}
 use Rattle.state.specs.Limits.{isAddress, sameAddress, lastWithin, messageWithin, senderWithin, newAmong, addressAt, sendersWithin, settingsWithin, valid}
 use Rattle.state.specs.LimitsLaws.{new-ext}
-use Rattle.state.specs.Map.{fullMap}
 use Rattle.state.specs.State.{noSender, senderAt}
 
 -- ---- an open message

@@ -11,15 +11,12 @@ ghost use Rattle.state.specs.Key.{keyOf, newKey};
 ghost use Rattle.state.specs.KeyLaws.{Narrow};
 ghost use Rattle.state.specs.Table.{source as sourceOf, lookAt};
 ghost use Rattle.state.specs.State.{emptyReceiver};
-
-pub mod map;
-
-use crate::map::is_partial;
 use codes::DataField;
 use codes::Node;
 use codes::code_of;
 use cut::possible::several;
 use header::Head;
+use map::is_partial;
 use ring::M;
 use ring::Number;
 use ring::Version;

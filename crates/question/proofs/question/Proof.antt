@@ -6,9 +6,9 @@ use native.Mathlib.Omega.{arith}
 use borrow.Author.Count.{below-more}
 use borrow.Author.Tests.{not-true, not-false}
 use Rattle.rules.specs.declared.answers.Missing.the-variants.{NoneOpen}
+use Rattle.map.specs.Map.{holds}
 use Rattle.state.specs.LimitsLaws.{valid-count}
 use Rattle.state.specs.WithinLaws.{valid-sender}
-use Rattle.state.specs.Map.{holds}
 use Rattle.state.specs.TableLaws.{look-valid}
 use Rattle.rules.specs.QuestionLaws.{all-held, question-none, question-piece, question-nine}
 use Rattle.state.specs.State.{senderAt}

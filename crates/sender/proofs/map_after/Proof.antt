@@ -7,9 +7,9 @@ use borrow.Author.Needs.{needs}
 use Rattle.header.specs.declared.Head.{Head}
 use Rattle.cut.specs.Possible.{possible}
 use Rattle.cut.specs.PossibleLaws.{possible-facts, possible-most}
+use Rattle.map.specs.Map.{holds, marked}
+use Rattle.map.specs.MapLaws.{marked-adds, holds-zero}
 use Rattle.state.specs.declared.Sender.{Sender}
-use Rattle.state.specs.Map.{holds, marked}
-use Rattle.state.specs.MapLaws.{marked-adds, holds-zero}
 use Rattle.rules.specs.Admit.{rejoins, mapAfter}
 use Rattle.sender.proofs.map_after.Statement.{statement}
 use Rattle.sender.proofs.map_after.Tie as tie

@@ -1,8 +1,8 @@
 -- A shift and a mask are the bit. Assumes nothing.
-use Rattle.state.specs.MapLaws.{code-bit}
+use Rattle.map.specs.MapLaws.{code-bit}
 use borrow.Author.Needs.{needs}
-use Rattle.state.proofs.map.bit_of.Statement.{statement}
-use Rattle.state.proofs.map.bit_of.Tie as tie
+use Rattle.map.proofs.bit_of.Statement.{statement}
+use Rattle.map.proofs.bit_of.Tie as tie
 
 shr-result : tie.Need-shr-result
 shr-result c = search needs

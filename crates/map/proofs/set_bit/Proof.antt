@@ -1,8 +1,8 @@
 -- Setting a clear bit adds its power. Assumes nothing.
-use Rattle.state.specs.MapLaws.{code-mark}
+use Rattle.map.specs.MapLaws.{code-mark}
 use borrow.Author.Needs.{needs}
-use Rattle.state.proofs.map.set_bit.Statement.{statement}
-use Rattle.state.proofs.map.set_bit.Tie as tie
+use Rattle.map.proofs.set_bit.Statement.{statement}
+use Rattle.map.proofs.set_bit.Tie as tie
 
 shl-result : tie.Need-shl-result
 shl-result c = search needs

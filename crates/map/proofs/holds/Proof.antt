@@ -1,10 +1,10 @@
 -- No bit past the 64th is set. Assumes nothing.
 use mathlib.Core.Path.{sym, _∙_}
 use native.Mathlib.Omega.{arith}
-use Rattle.state.specs.MapLaws.{holds-above}
+use Rattle.map.specs.MapLaws.{holds-above}
 use borrow.Author.Needs.{needs}
-use Rattle.state.proofs.map.holds.Statement.{statement}
-use Rattle.state.proofs.map.holds.Tie as tie
+use Rattle.map.proofs.holds.Statement.{statement}
+use Rattle.map.proofs.holds.Tie as tie
 
 returns : tie.Need-returns
 returns c = let a = c .before .args in sym (holds-above (a .map) (a .c) (omega arith) (c .if1 .taken))

@@ -3,7 +3,7 @@ ghost use mathlib.Core.Path.{_≡_};
 ghost use Prim.Native.Nat.{_+_, _-_, _^_, _≤_, _<_};
 ghost use lib.Count.{ones};
 ghost use lib.Dec.{eqb};
-ghost use Rattle.state.specs.Map.{bit, holds as holdsOf, fullMap, isPartial, marked as markedOf, lowestMissing};
+ghost use Rattle.map.specs.Map.{bit, holds as holdsOf, fullMap, isPartial, marked as markedOf, lowestMissing};
 
 pub fn holds(map: u64, c: u8) -> bool
     ensures { λ r. ⌜ r ≡ holdsOf map c ⌝ }

@@ -1,9 +1,9 @@
 -- All ones, shifted down to t of them. Assumes nothing.
 use mathlib.Core.Path.{_≡_}
-use Rattle.state.specs.MapLaws.{code-full}
+use Rattle.map.specs.MapLaws.{code-full}
 use borrow.Author.Needs.{needs}
-use Rattle.state.proofs.map.full.Statement.{statement}
-use Rattle.state.proofs.map.full.Tie as tie
+use Rattle.map.proofs.full.Statement.{statement}
+use Rattle.map.proofs.full.Tie as tie
 
 returns : tie.Need-returns
 returns c = let e : c .before .args .t ≡ 0 = c .if1 .taken in rw e

@@ -3,9 +3,9 @@ use mathlib.Core.Path.{ap}
 use native.Mathlib.Omega.{arith}
 use Prim.Native.Nat.{ℕ, _+_, _-_}
 use lib.Count.{trailing-le}
-use Rattle.state.specs.MapLaws.{code-lowest}
-use Rattle.state.proofs.map.lowest_missing.Statement.{statement}
-use Rattle.state.proofs.map.lowest_missing.Tie as tie
+use Rattle.map.specs.MapLaws.{code-lowest}
+use Rattle.map.proofs.lowest_missing.Statement.{statement}
+use Rattle.map.proofs.lowest_missing.Tie as tie
 
 add-result : tie.Need-add-result
 add-result c = omega (arith, trailing-le 64 (18446744073709551615 - c .args .map))

@@ -2,11 +2,11 @@
 use mathlib.Core.Path.{sym, _∙_}
 use native.Mathlib.Omega.{arith}
 use borrow.Author.Tests.{le-leb, lt-leb}
-use Rattle.state.specs.Map.{marked, holds}
-use Rattle.state.specs.MapLaws.{holds-not}
+use Rattle.map.specs.Map.{marked, holds}
+use Rattle.map.specs.MapLaws.{holds-not}
 use borrow.Author.Needs.{needs}
-use Rattle.state.proofs.map.marked.Statement.{statement}
-use Rattle.state.proofs.map.marked.Tie as tie
+use Rattle.map.proofs.marked.Statement.{statement}
+use Rattle.map.proofs.marked.Tie as tie
 
 returns : tie.Need-returns
 unfolding marked

@@ -2,11 +2,11 @@
 use mathlib.Core.Path.{_≡_, sym}
 use native.Mathlib.Omega.{arith}
 use borrow.Author.Tests.{ne-eqb}
-use Rattle.state.specs.Map.{fullMap}
-use Rattle.state.specs.MapLaws.{full-above}
+use Rattle.map.specs.Map.{fullMap}
+use Rattle.map.specs.MapLaws.{full-above}
 use borrow.Author.Needs.{needs}
-use Rattle.state.proofs.map.is_full.Statement.{statement}
-use Rattle.state.proofs.map.is_full.Tie as tie
+use Rattle.map.proofs.is_full.Statement.{statement}
+use Rattle.map.proofs.is_full.Tie as tie
 
 returns : tie.Need-returns
 returns c = let a = c .before .args in sym (ne-eqb (a .map) (fullMap (a .t)) (λ (e : a .map ≡ fullMap (a .t)). omega (arith, full-above (a .map) (a .t) (omega arith) (c .if1 .taken))))

@@ -3,10 +3,10 @@ use mathlib.Core.Path.{sym}
 use native.Mathlib.Omega.{arith}
 use mathlib.Core.Bool.{and-true}
 use borrow.Author.Tests.{lt-ltb}
-use Rattle.state.specs.MapLaws.{full-above}
+use Rattle.map.specs.MapLaws.{full-above}
 use borrow.Author.Needs.{needs}
-use Rattle.state.proofs.map.is_partial.Statement.{statement}
-use Rattle.state.proofs.map.is_partial.Tie as tie
+use Rattle.map.proofs.is_partial.Statement.{statement}
+use Rattle.map.proofs.is_partial.Tie as tie
 
 returns : tie.Need-returns
 returns c = let a = c .before .args in rw (lt-ltb _ _ (full-above (a .map) (a .t) (omega arith) (c .if1 .taken))) (sym (and-true _))

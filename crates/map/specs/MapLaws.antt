@@ -11,7 +11,7 @@ use lib.Count.{ones, ones-step, trailingZeros}
 use lib.Pow.{pow-pos, pow-mono, pow-lt, shr-shr, high, ones-split, ones-lt}
 use borrow.Author.Tests.{eqb-false, ne-eqb, le-leb}
 use Rattle.octets.specs.Split.{eq-or-ne}
-use Rattle.state.specs.Map.{bit, holds, pieceBit, fullMap, marked, lowest}
+use Rattle.map.specs.Map.{bit, holds, pieceBit, fullMap, marked, lowest}
 
 -- ---- bits
 
