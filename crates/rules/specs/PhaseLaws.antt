@@ -20,7 +20,7 @@ use Rattle.map.specs.MapLaws.{bit-set, bit-keep, bit-zero, set-below, full-bit,
 use Rattle.state.specs.declared.Last.{Last}
 use Rattle.state.specs.declared.Sender.{Sender}
 use Rattle.rules.specs.declared.answers.Outcome.the-variants.{Refused, Stored, Delivered}
-use Rattle.rules.specs.Admit.{fills, mapAfter, verdictOf, messageOf, opened, closed, lastBy, senderAfter, admitted}
+use Rattle.rules.specs.Admit.{fills, mapAfter, verdictOf, messageOf, opened, closed, lastBy, senderAfter, admitted, notAdmitted, admission}
 use Rattle.rules.specs.Clock.{drops, aged}
 use Rattle.rules.specs.Delivery.{Sent, count, Numbered, PieceOf, isOpen, verdictFor}
 use Rattle.rules.specs.Join.{kinIn}
@@ -176,15 +176,18 @@ module _ (g : Settings) (m : Sent) (k : Cuttable m) (admits : eqb (m .mode) 1 &&
 
     -- The answer to the last missing piece, to one of several, and to one that came before.
     outcome-last : holds (mapOf m s) c ≡ false → ((d : ℕ) → Numbered m d → With d) → outcomeView g v p ≡ Delivered (verdictFor (g .n1) m last)
+    unfolding admission admitted
     outcome-last clear all =
-        rw (number-clear clear, fills-by clear, eq-eqb (grown clear) (fullMap (count m)) (all-full clear all), verdict-is (g .test) (g .n1) m k admits s c p is, f .same-last)
+        rw (outcomeView, number-clear clear, fills-by clear, eq-eqb (grown clear) (fullMap (count m)) (all-full clear all), verdict-is (g .test) (g .n1) m k admits s c p is, f .same-last)
 
     outcome-more : holds (mapOf m s) c ≡ false → (((d : ℕ) → Numbered m d → With d) → ⊥) → outcomeView g v p ≡ Stored
+    unfolding admission admitted
     outcome-more clear not-all =
-        rw (number-clear clear, fills-by clear, ne-eqb (grown clear) (fullMap (count m)) (λ e. not-all (full-all clear e)))
+        rw (outcomeView, number-clear clear, fills-by clear, ne-eqb (grown clear) (fullMap (count m)) (λ e. not-all (full-all clear e)))
 
     outcome-held : C c → outcomeView g v p ≡ Refused 20
-    outcome-held e = rw (number-held e)
+    unfolding admission notAdmitted
+    outcome-held e = rw (outcomeView, number-held e)
 
     not-held : (C c → ⊥) → holds (mapOf m s) c ≡ false
     not-held none = ⊎-elim
@@ -231,8 +234,9 @@ module _ (g : Settings) (m : Sent) (k : Cuttable m) (admits : eqb (m .mode) 1 &&
   phase-held (inr f) here d numbered missing = absurd (missing (f .all d numbered))
 
   pub phase-once : 1 ≤ g .n1 → m .version ≢ 0 → Phase m last C s → ((d : ℕ) → Numbered m d → C d) → outcomeView g v p ≡ Refused 17
+  unfolding admission notAdmitted
   phase-once one some (inl f) all = absurd (some-missing f all)
-  phase-once one some (inr f) all = rw (number-finished f one some)
+  phase-once one some (inr f) all = rw (outcomeView, number-finished f one some)
 
 -- ---- a clock call that keeps the message
 

@@ -13,8 +13,7 @@ use Rattle.state.specs.Limits.{sameAddress, clockMost}
 use Rattle.state.specs.State.{noAddress, noHeard, senderAt}
 use Rattle.state.specs.Table.{source}
 use Rattle.rules.specs.declared.answers.Outcome.{Outcome}
-use Rattle.rules.specs.declared.answers.Outcome.the-variants.{Refused, Stored, Delivered}
-use Rattle.rules.specs.Admit.{verdictOf, senderRows, fills, admitted}
+use Rattle.rules.specs.Admit.{senderRows, admitted, admission}
 use Rattle.rules.specs.Clock.{aged}
 use Rattle.rules.specs.First.{first}
 use Rattle.rules.specs.Message.{area, lengthWrong, headWithin, storageAfter}
@@ -69,10 +68,7 @@ numberOf g v packet = first (senderRows (g .test) (g .n1) (v .sender) (headOf pa
 
 -- What is answered.
 abbrev pub outcomeView : Settings → View → List ℕ → Outcome
-outcomeView g v packet =
-    cond (eqb (numberOf g v packet) 0)
-    (cond (fills (v .sender) (headOf packet)) (Delivered (verdictOf (g .n1) (v .sender) (headOf packet))) Stored)
-    (Refused (numberOf g v packet))
+outcomeView g v packet = admission (g .test) (g .n1) (v .now) (v .sender) (headOf packet) .outcome
 
 unfoldable pub put : Settings → View → List ℕ → View
 put g v packet = record {

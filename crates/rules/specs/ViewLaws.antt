@@ -2,7 +2,7 @@
 use Prim.Native.Nat.{ℕ, suc, _+_, _*_, _≤_, _<_}
 use mathlib.Core.Path.{_≡_, refl, sym, ap, _∙_}
 use mathlib.Core.Logic.{_≢_, ⊎-elim}
-use mathlib.Core.Bool.{Bool, true, false, not, cond}
+use mathlib.Core.Bool.{Bool, true, false, not}
 use mathlib.Core.List.{List, [], _∷_}
 use native.Mathlib.Nat.{mul-le-mul-right, suc-mul}
 use native.Mathlib.Omega.{arith}
@@ -29,9 +29,8 @@ use Rattle.state.specs.Table.{source, found}
 use Rattle.state.specs.WithinLaws.{valid-length, valid-apart, same-both, set-place}
 use Rattle.rules.specs.declared.answers.Answer.{Answer}
 use Rattle.rules.specs.declared.answers.Noted.{Noted}
-use Rattle.rules.specs.declared.answers.Outcome.the-variants.{Refused, Stored, Delivered}
 use Rattle.rules.specs.declared.answers.Ticked.{Ticked}
-use Rattle.rules.specs.Admit.{verdictOf, senderRows, rejoins, mapAfter, fills, senderAfter, admitted}
+use Rattle.rules.specs.Admit.{senderRows, rejoins, mapAfter, fills, senderAfter, admitted, notAdmitted, admission}
 use Rattle.rules.specs.Changes.{message-only, alive-only}
 use Rattle.rules.specs.Alive.{aliveRows, heardBy, aliveAnswer}
 use Rattle.rules.specs.Clock.{clockRows, aged, ticked, notTicked, clockAnswer}
@@ -42,7 +41,7 @@ use Rattle.rules.specs.MessageLaws.{Passed, taken-facts}
 use Rattle.rules.specs.Past.{World, Event, message, alive, clock, question, step, after}
 use Rattle.rules.specs.PastLaws.{Sound, same-count, step-sound}
 use Rattle.rules.specs.QuestionLaws.{first-of, first-holds}
-use Rattle.rules.specs.View.{Settings, settingsFrom, View, joining, view, inOrder, isFrom, own, other, seen, numberOf, outcomeView, put, nextView, tickView, stepView}
+use Rattle.rules.specs.View.{Settings, settingsFrom, View, joining, view, inOrder, isFrom, seen, numberOf, outcomeView, put, nextView, tickView, stepView}
 
 -- ---- a packet in order comes as far as its sender's place
 
@@ -64,10 +63,6 @@ module _ (w : Receiver) (room : ℕ) (packet : List ℕ) (ok : valid w ≡ true)
       let long = not-true (lengthWrong (length packet) (headOf packet)) (and-left (not (lengthWrong (length packet) (headOf packet))) (headWithin packet (headOf packet)) e) in
       let head = and-right (not (lengthWrong (length packet) (headOf packet))) (headWithin packet (headOf packet)) e in
       rw (ok, eq-eqb room (w .count * area) right, long, head, f, lt-leb (w .count) i here)
-
-  -- One from nobody registered meets a number.
-  pub number-past : w .count ≤ found w (headOf packet) → messageNumber w room packet ≢ 0
-  number-past past none = omega (arith, taken-facts w room packet none .0 .registered)
 
 -- A packet that meets a number leaves the world as it was.
 pub message-still : (w : World) (packet : List ℕ) → messageNumber (w .state) (length (w .storage)) packet ≢ 0 → step w (message packet) ≡ w
@@ -142,6 +137,10 @@ joining-after n1 now s h = ⊎-elim
     (λ (e : fills s h ≡ false). rw (fills-joining s h, e, map-joining s h))
     (true-or-false (fills s h))
 
+outcome-joining : (n1 now : ℕ) (s : Sender) (h : Head) → admitted n1 now (joining s) h .outcome ≡ admitted n1 now s h .outcome
+unfolding admitted fills mapAfter rejoins
+outcome-joining n1 now s h = refl
+
 rows-joining : (test : Bool) (n1 : ℕ) (s : Sender) (h : Head) → senderRows test n1 (joining s) h ≡ senderRows test n1 s h
 unfolding senderRows rejoins
 rows-joining test n1 s h = refl
@@ -212,6 +211,13 @@ module _ (w : World) (sound : Sound w) (i : ℕ) (here : i < w .state .count) wh
     view-own = ⊎-elim
         (λ (e : numberOf g v packet ≡ 0). rw (eq-eqb (numberOf g v packet) 0 e) (put-is (number-is ∙ e)))
         (λ (e : numberOf g v packet ≢ 0). rw (ne-eqb (numberOf g v packet) 0 e) (ap (λ (x : World). view x i) (message-still w packet (λ z. e (sym number-is ∙ z)))))
+        (eq-or-ne (numberOf g v packet) 0)
+
+    pub outcome-is : messageAnswer (w .state) (length (w .storage)) packet .outcome ≡ outcomeView g v packet
+    unfolding view messageAnswer taken refused admission notAdmitted
+    outcome-is = ⊎-elim
+        (λ (e : numberOf g v packet ≡ 0). rw (outcomeView, number-is, eq-eqb (numberOf g v packet) 0 e, at-place, outcome-joining (w .state .n1) (w .state .clock) s (headOf packet)))
+        (λ (e : numberOf g v packet ≢ 0). rw (outcomeView, number-is, ne-eqb (numberOf g v packet) 0 e))
         (eq-or-ne (numberOf g v packet) 0)
 
   -- ---- another's packet
@@ -338,22 +344,6 @@ module _ (w : World) (sound : Sound w) (i : ℕ) (here : i < w .state .count) wh
       (λ _. refl) (λ _. address-aged (w .state .t) now (senderAt (w .state) i))
   same-address question = refl
 
--- ---- the answer
-
-answer-outcome : (b : Bool) (x y : Answer) → (cond {A = Answer} b x y) .outcome ≡ cond b (x .outcome) (y .outcome)
-answer-outcome true x y = refl
-answer-outcome false x y = refl
-
-outcome-at : (w : World) (i : ℕ) (packet : List ℕ) → found (w .state) (headOf packet) ≡ i → messageAnswer (w .state) (length (w .storage)) packet .outcome
-    ≡ cond (eqb (messageNumber (w .state) (length (w .storage)) packet) 0)
-    (cond (fills (senderAt (w .state) i) (headOf packet)) (Delivered (verdictOf (w .state .n1) (senderAt (w .state) i) (headOf packet))) Stored)
-    (Refused (messageNumber (w .state) (length (w .storage)) packet))
-unfolding messageAnswer taken refused admitted
-outcome-at w i packet at =
-    let number = messageNumber (w .state) (length (w .storage)) packet in
-    let k = found (w .state) (headOf packet) in
-    answer-outcome (eqb number 0) (taken (w .state) k (senderAt (w .state) k) (headOf packet)) (refused (w .state) number) ∙ rw at
-
 -- ---- a registered sender, through every call
 
 -- The sender with this address stands at place i, under these settings.
@@ -386,8 +376,8 @@ module _ (g : Settings) (a : Address) (i : ℕ) (w : World) (r : Registered g a 
 
   pub registered-outcome : (packet : List ℕ) → isFrom a packet ≡ true → messageAnswer (w .state) (length (w .storage)) packet .outcome ≡ outcomeView g (view w i) packet
   registered-outcome packet mine =
-      outcome-at w i packet (registered-place packet mine)
-      ∙ rw (registered-number packet mine, ← r .settings) (unfold view in rw (fills-joining (senderAt (w .state) i) (headOf packet)))
+      outcome-is w (r .sound) i (r .here) packet (rw (r .address) mine)
+      ∙ ap (λ (x : Settings). outcomeView x (view w i) packet) (r .settings)
 
 pub registered-after : (g : Settings) (a : Address) (i : ℕ) (w : World) → Registered g a i w → (es : List Event) → Registered g a i (after w es)
 unfolding after
