@@ -8,7 +8,7 @@ use native.Mathlib.Nat.{mod-eq-of-lt, one-mul, add-zero}
 use native.Mathlib.Numerals.{add-one}
 use native.Mathlib.Omega.{arith}
 use lib.Dec.{ltb}
-use lib.ListN.{length, getD, set, length-set}
+use lib.ListN.{length, getD, set}
 use lib.Pow.{pow-mono, pow-lt}
 use lib.Seq.{getD-set-other}
 use Rattle.octets.specs.Split.{true-or-false, cond-case, eq-or-ne}
@@ -24,11 +24,6 @@ use Rattle.rules.specs.FirstLaws.{first-here, first-later}
 use Rattle.state.specs.Limits.{valid, clockMost}
 use Rattle.state.specs.State.{noSender, senderAt}
 use Rattle.state.specs.WithinLaws.{written-place, valid-length}
-
-pub length-aged : (t now : ℕ) (l : List Sender) (k : ℕ) → length (agedSenders t now l k) ≡ length l
-unfolding agedSenders
-length-aged t now l zero = refl
-length-aged t now l (suc k) = length-set (agedSenders t now l k) k (aged t now (getD l k noSender)) ∙ length-aged t now l k
 
 -- A sender whose turn has not come is as it was.
 pub aged-later : (t now : ℕ) (l : List Sender) (k j : ℕ) → k ≤ j → getD (agedSenders t now l k) j noSender ≡ getD l j noSender

@@ -11,7 +11,7 @@ use borrow.Author.Tests.{eqb-true, leb-true}
 use Rattle.octets.specs.Split.{true-or-false, never-both, cond-case, and-left, and-right}
 use Rattle.ring.specs.Check.{isRepeat}
 use Rattle.header.specs.Head.{headOf}
-use Rattle.cut.specs.Pieces.{pieces, piece, joined}
+use Rattle.cut.specs.Pieces.{piece, joined}
 use Rattle.cut.specs.PiecesLaws.{pieces-join, joined-same}
 use Rattle.map.specs.Map.{bit}
 use Rattle.map.specs.MapLaws.{piece-some}
@@ -29,7 +29,6 @@ use Rattle.rules.specs.Clock.{drops}
 use Rattle.rules.specs.ClockLaws.{not-reported}
 use Rattle.rules.specs.Delivery.{Sent, count, Numbered, PieceOf, Brings, Came, isOpen, verdictFor, KeptBy, Allowed, Between, OnlyPieces, ElseRefused, May, Arrives, Once}
 use Rattle.rules.specs.Join.{Kin, kinOf, Joined}
-use Rattle.rules.specs.Message.{taken, refused}
 use Rattle.rules.specs.Past.{World, Event, message, alive, clock, question, step, after, Start}
 use Rattle.rules.specs.PastLaws.{Sound, start-sound, past-sound, after-count}
 use Rattle.rules.specs.PhaseLaws.{Phase, phase-same, phase-start, phase-next, phase-last, phase-more, phase-held, phase-once, phase-clock}

@@ -26,7 +26,7 @@ use Rattle.map.specs.MapLaws.{bit-set, bit-keep, bit-zero, set-below, full-bit,
 use Rattle.state.specs.declared.Message.{Message}
 use Rattle.state.specs.declared.Sender.{Sender}
 use Rattle.state.specs.Limits.{clockMost}
-use Rattle.rules.specs.Admit.{rejoins, sameCut, mapAfter, fills, messageOf, opened, senderAfter, admitted}
+use Rattle.rules.specs.Admit.{rejoins, sameCut, mapAfter, fills, messageOf, senderAfter, admitted}
 use Rattle.rules.specs.AdmitLaws.{Admitted, admitted-facts}
 use Rattle.rules.specs.Clock.{drops, aged}
 use Rattle.rules.specs.Join.{Kin, kinOf, kinIn, numberIn, behind, Brought, OnePerNumber, Joined}

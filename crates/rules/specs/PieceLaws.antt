@@ -1,5 +1,5 @@
 -- What a sender's record makes of a piece of a message that is on its way. Assumes nothing.
-use Prim.Native.Nat.{ℕ, _+_, _-_, _≤_, _<_}
+use Prim.Native.Nat.{ℕ, _+_, _≤_, _<_}
 use mathlib.Core.Path.{_≡_, sym, ap, subst, _∙_}
 use mathlib.Core.Logic.{⊎-elim}
 use mathlib.Core.Bool.{Bool, true, false, not, cond, _&&_}
@@ -21,7 +21,7 @@ use Rattle.header.specs.Head.{headOf, isFixed}
 use Rattle.header.specs.Places.{headerSize}
 use Rattle.cutter.specs.Cutter.{cutFor}
 use Rattle.cutter.specs.CutterLaws.{Within, length-piece, unit-same, cut-possible, cut-same}
-use Rattle.cut.specs.Pieces.{mostOctets, leastUnit, mostUnit, pieces, piece}
+use Rattle.cut.specs.Pieces.{mostOctets, leastUnit, mostUnit, piece}
 use Rattle.cut.specs.PiecesLaws.{pieces-one, pieces-some}
 use Rattle.cut.specs.Possible.{possible, messageLength, ownLength, unit, isUnit}
 use Rattle.map.specs.Map.{holds, pieceBit, fullMap}

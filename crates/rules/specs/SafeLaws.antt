@@ -1,5 +1,5 @@
 -- What is delivered after a past is a join of packets accepted since their message opened. Assumes nothing.
-use Prim.Native.Nat.{ℕ, suc, _+_, _-_, _*_, _≤_, _<_}
+use Prim.Native.Nat.{ℕ, suc, _+_, _*_, _≤_, _<_}
 use mathlib.Core.Path.{_≡_, refl, sym, ap, subst, _∙_}
 use mathlib.Core.Logic.{_≢_, ⊎-elim}
 use mathlib.Core.Bool.{Bool, true, false, not, cond, _&&_, _||_}
@@ -109,9 +109,9 @@ module _ (w : World) (sound : Sound w) (p : List ℕ) (vd : Verdict) (gave : mes
   unfolding run
   behind-all = sym (take-all (ownLength (h .cut)) (drop headerSize p) (simp length-drop (omega (arith, passed .size))))
 
-  stored-long : (m : ℕ) → length (storageAfter (w .storage) i h p) ≡ length (w .storage)
+  stored-long : length (storageAfter (w .storage) i h p) ≡ length (w .storage)
   unfolding storageAfter
-  stored-long m = cond-case (λ (x : List ℕ). length x ≡ length (w .storage)) (eqb (h .cut .tbn) 1) _ _ (λ _. refl) (λ _. length-laid (w .storage) _ _)
+  stored-long = cond-case (λ (x : List ℕ). length x ≡ length (w .storage)) (eqb (h .cut .tbn) 1) _ _ (λ _. refl) (λ _. length-laid (w .storage) _ _)
 
   part-stored : storedPart (storageAfter (w .storage) i h p) (i * area) (messageLength (h .cut)) ≡ run 0 (messageLength (h .cut)) (storageAfter (view w i .octets) 0 h p)
   unfolding storedPart view
@@ -120,9 +120,9 @@ module _ (w : World) (sound : Sound w) (p : List ℕ) (vd : Verdict) (gave : mes
       let st = storageAfter (w .storage) i h p in
       let big : n ≤ area = possible-facts (h .cut) cut-possible .big in
       let z : i * area + 0 ≡ i * area = omega arith in
-      let fits : i * area + n ≤ length st = omega (arith, stored-long 0, there) in
+      let fits : i * area + n ≤ length st = omega (arith, stored-long, there) in
       rw (le-leb (i * area + n) (length st) fits, ← own-octets w sound i (passed .registered) p cut-possible (passed .size))
-      (sym (run-run (i * area) area 0 n st (omega arith) (omega (arith, stored-long 0, there)) ∙ ap (λ (x : ℕ). run x n st) z))
+      (sym (run-run (i * area) area 0 n st (omega arith) (omega (arith, stored-long, there)) ∙ ap (λ (x : ℕ). run x n st) z))
 
   pub part-is : partOf (answer .place) p (messageStorage (w .state) (w .storage) p) ≡ partView (view w i) p
   unfolding partView

@@ -5,8 +5,8 @@ use native.Mathlib.Omega.{arith}
 use lib.ListN.{length}
 use lib.Seq.{length-take-le}
 use borrow.Author.Needs.{needs}
-use mathlib.Core.Path.{_≡_, sym, _∙_}
-use lib.Seq.{length-take-le, length-front}
+use mathlib.Core.Path.{_∙_}
+use lib.Seq.{length-front}
 use Rattle.adp.proofs.main.Statement.{statement}
 use Rattle.adp.proofs.main.Tie as tie
 

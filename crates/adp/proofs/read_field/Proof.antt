@@ -1,9 +1,9 @@
 -- A head of 3 octets, and at most 65,535 behind it. Assumes nothing.
 use borrow.Author.Needs.{needs}
 use native.Mathlib.Omega.{arith}
-use mathlib.Core.Path.{_≡_, sym, _∙_}
+use mathlib.Core.Path.{sym}
 use denote.Ref.{now}
-use lib.ListN.{length, take, length-append}
+use lib.ListN.{length-append}
 use lib.Seq.{length-take-le}
 use Rattle.adp.proofs.read_field.Statement.{statement}
 use Rattle.adp.proofs.read_field.Tie as tie

@@ -9,7 +9,6 @@ use Rattle.rules.specs.ClockLaws.{withSenders, map-again, map-below, state-more
 use Rattle.state.specs.LimitsLaws.{valid-count}
 use Rattle.state.specs.TableLaws.{look-valid}
 use Rattle.state.specs.declared.Receiver.{Receiver}
-use borrow.Author.Needs.{needs}
 use Rattle.clock.proofs.clock.Statement.{statement}
 use Rattle.clock.proofs.clock.Tie as tie
 

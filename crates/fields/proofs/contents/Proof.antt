@@ -4,7 +4,7 @@ use native.Mathlib.Omega.{arith}
 use lib.Seq.{take-all}
 use Rattle.octets.specs.Run.{run}
 use lib.ListN.{take}
-use lib.Seq.{take-all, length-take-le}
+use lib.Seq.{length-take-le}
 use mathlib.Core.Path.{_≡_, sym, ap, _∙_}
 use denote.Ref.{now}
 use Rattle.fields.proofs.contents.Statement.{statement}

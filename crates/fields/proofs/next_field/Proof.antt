@@ -2,11 +2,9 @@
 use borrow.Author.Needs.{needs}
 use native.Mathlib.Omega.{arith}
 use denote.Ref.{now}
-use lib.ListN.{length}
-use borrow.Author.Tests.{eq-eqb, ne-eqb, lt-ltb, le-ltb}
+use borrow.Author.Tests.{eq-eqb, ne-eqb, lt-ltb}
 use Rattle.fields.specs.Field.{nextOf}
 use mathlib.Core.Path.{sym, _∙_}
-use borrow.Author.Tests.{eq-eqb, ne-eqb, lt-ltb}
 use Rattle.fields.specs.FieldLaws.{next-bad, next-cut, next-whole}
 use Rattle.fields.proofs.next_field.Statement.{statement}
 use Rattle.fields.proofs.next_field.Tie as tie

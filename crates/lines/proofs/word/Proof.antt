@@ -3,7 +3,7 @@ use borrow.Author.Needs.{needs}
 use native.Mathlib.Omega.{arith}
 use Rattle.octets.specs.Split.{mapped-length}
 use Rattle.lines.specs.LineLaws.{word-added}
-use Rattle.lines.specs.LineLaws.{digits-room, word-added}
+use Rattle.lines.specs.LineLaws.{digits-room}
 use Rattle.lines.proofs.word.Statement.{statement}
 use Rattle.lines.proofs.word.Tie as tie
 

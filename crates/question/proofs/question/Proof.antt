@@ -13,7 +13,7 @@ use Rattle.state.specs.TableLaws.{look-valid}
 use Rattle.rules.specs.QuestionLaws.{all-held, question-none, question-piece, question-nine}
 use Rattle.state.specs.State.{senderAt}
 use borrow.Author.Needs.{needs}
-use Rattle.rules.specs.QuestionLaws.{piecesOf, Held, all-held, question-none, question-piece, question-nine}
+use Rattle.rules.specs.QuestionLaws.{piecesOf, Held}
 use Rattle.question.proofs.question.Statement.{statement}
 use Rattle.question.proofs.question.Tie as tie
 

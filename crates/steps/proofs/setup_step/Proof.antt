@@ -1,6 +1,5 @@
 -- The call on the contents, and its line. Assumes nothing.
 use borrow.Author.Needs.{needs}
-use mathlib.Core.Path.{sym, _∙_}
 use borrow.Author.Tests.{eq-eqb, ne-eqb}
 use Rattle.steps.proofs.setup_step.Statement.{statement}
 use Rattle.steps.proofs.setup_step.Tie as tie

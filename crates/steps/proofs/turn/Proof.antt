@@ -1,6 +1,6 @@
 -- Each arm is that of the definition. Assumes nothing.
 use borrow.Author.Needs.{needs}
-use mathlib.Core.Path.{refl, sym, ap, _∙_}
+use mathlib.Core.Path.{refl, sym, _∙_}
 use Rattle.steps.specs.Step.{turnBy, turnStorage}
 use Rattle.steps.proofs.turn.Statement.{statement}
 use Rattle.steps.proofs.turn.Tie as tie

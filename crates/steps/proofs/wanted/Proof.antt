@@ -1,6 +1,6 @@
 -- Each arm is that of the definition. Assumes nothing.
 use borrow.Author.Needs.{needs}
-use mathlib.Core.Path.{refl, sym, ap, _∙_}
+use mathlib.Core.Path.{refl, sym, _∙_}
 use native.Mathlib.Omega.{arith}
 use Rattle.steps.specs.Step.{wantedBy}
 use Rattle.steps.proofs.wanted.Statement.{statement}
