@@ -20,7 +20,7 @@ use Rattle.rules.specs.Alive.{aliveAnswer}
 use Rattle.rules.specs.Clock.{clockAnswer}
 use Rattle.rules.specs.Message.{area, messageAnswer, messageStorage}
 use Rattle.rules.specs.Part.{partOf}
-use Rattle.rules.specs.Past.{World, Event, message, alive, clock, question, step}
+use Rattle.rules.specs.Past.{World, Event, message, alive, clock, question, Said, Answers}
 use Rattle.rules.specs.Question.{questionAnswer}
 use Rattle.rules.specs.Setup.{setupAnswer}
 
@@ -66,22 +66,12 @@ pub record CutterMeets (g : Given) (m : List ℕ) (u c : ℕ) (buffer : List ℕ
 
 -- ---- a course
 
--- What a call says; a message call, with the part that is then handed over.
-abbrev pub Said : Event → Type 0
-Said (message packet) = Answer × List ℕ
-Said (alive packet) = Noted
-Said (clock now) = Ticked
-Said question = Missing
-
+-- What the call e said at the world w, and the world that it left; a message call, with the part that is then handed over.
 abbrev pub Meets : (w : World) (e : Event) → Said e → World → Type 0
 Meets w (message packet) r v = MessageMeets w packet (r .0) v × PartMeets (r .0 .place) packet (v .storage) (r .1)
 Meets w (alive packet) r v = AliveMeets w packet r v
 Meets w (clock now) r v = ClockMeets w now r v
 Meets w question r v = QuestionMeets w r v
-
-abbrev pub Answers : List Event → Type 0
-Answers [] = Unit {0}
-Answers (e ∷ es) = Said e × Answers es
 
 -- Calls from the world w on, in the order of time, "each given the state and storage that the one before left"; v is what the last one left.
 abbrev pub Course : (w : World) (es : List Event) → Answers es → World → Type 0
@@ -94,17 +84,3 @@ Leads w es v = (rs : Answers es) × Course w es rs v
 
 abbrev pub messagesOf : List ℕ → List ℕ → List Event
 messagesOf first second = message first ∷ message second ∷ []
-
--- ---- what `rules` says of the same calls
-
-unfoldable pub said : (w : World) (e : Event) → Said e
-said w (message packet) =
-    let r = messageAnswer (w .state) (length (w .storage)) packet in
-    (r, partOf (r .place) packet (messageStorage (w .state) (w .storage) packet))
-said w (alive packet) = aliveAnswer (w .state) packet
-said w (clock now) = clockAnswer (w .state) now
-said w question = questionAnswer (w .state)
-
-unfoldable pub answers : (w : World) (es : List Event) → Answers es
-answers w [] = tt
-answers w (e ∷ es) = (said w e, answers (step w e) es)

@@ -13,9 +13,9 @@ use Rattle.rules.specs.declared.answers.Setup.{Setup}
 use Rattle.rules.specs.declared.answers.Started.{Started}
 use Rattle.rules.specs.declared.answers.Ticked.{Ticked}
 use Rattle.rules.specs.Part.{partOf}
-use Rattle.rules.specs.Past.{World, Event, message, alive, clock, question, step, after, Start}
+use Rattle.rules.specs.Past.{World, Event, message, alive, clock, question, step, after, Said, said, Answers, answers, Start}
 use Rattle.rules.specs.PastLaws.{Sound, past-sound}
-use Rattle.promises.specs.Course.{world, SetupMeets, MessageMeets, CutterMeets, Said, Meets, Answers, Course, Leads, messagesOf, said, answers}
+use Rattle.promises.specs.Course.{world, SetupMeets, MessageMeets, CutterMeets, Meets, Course, Leads, messagesOf}
 
 -- ---- one call
 

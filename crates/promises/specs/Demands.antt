@@ -18,7 +18,6 @@ use Rattle.cutter.specs.declared.Cutting.the-variants as cutting
 use Rattle.cutter.specs.Cutter.{cuts}
 use Rattle.cutter.specs.Edges.{all, edges}
 use Rattle.cutter.specs.ReadLaws.{Words}
-use Rattle.state.specs.declared.Address.{Address}
 use Rattle.state.specs.Limits.{addressAt}
 use Rattle.state.specs.State.{noLast, senderAt, emptyReceiver}
 use Rattle.state.specs.Table.{source}
@@ -27,7 +26,7 @@ use Rattle.rules.specs.declared.answers.Missing.the-variants as missing
 use Rattle.rules.specs.declared.answers.Outcome.the-variants as outcome
 use Rattle.rules.specs.declared.answers.Setup.{Setup}
 use Rattle.rules.specs.declared.answers.Started.{Started}
-use Rattle.rules.specs.Accepted.{acceptedWith}
+use Rattle.rules.specs.Accepted.{acceptedWith, acceptedIn}
 use Rattle.rules.specs.Alive.{aliveRows}
 use Rattle.rules.specs.AlivePast.{AliveBy}
 use Rattle.rules.specs.Clock.{clockRows}
@@ -37,10 +36,10 @@ use Rattle.rules.specs.First.{Row, row}
 use Rattle.rules.specs.FirstLaws as rows
 use Rattle.rules.specs.Join.{Joined}
 use Rattle.rules.specs.Message.{messageRows}
-use Rattle.rules.specs.Past.{World, Event, message, alive, clock, question}
+use Rattle.rules.specs.Past.{World, Event, message, alive, clock, question, Said, Answers}
 use Rattle.rules.specs.Question.{questionRows}
 use Rattle.rules.specs.Setup.{setupWithin}
-use Rattle.promises.specs.Course.{Said, Meets, Answers, Course, SetupMeets, CutterMeets}
+use Rattle.promises.specs.Course.{Meets, Course, SetupMeets, CutterMeets}
 
 -- ---- demand 1
 
@@ -131,17 +130,6 @@ Delivery = AfterPast (λ w past rs v. (m : Sent) (i : ℕ) → May m i past v
     → (es : List Event) (ts : Answers es) (u : World) → Course v es ts u → Between (OnlyPieces m) m i v es
     → (c : ℕ) (packet : List ℕ) → PieceOf m c packet → (r : Said (message packet)) (x : World) → Meets u (message packet) r x
     → Arrives m (verdictFor (v .state .n1) m (senderAt (v .state) i .last)) es c (r .0 .outcome) (r .1) × (m .version ≢ 0 → Once m es (r .0 .outcome)))
-
--- The packets from an address accepted since its message last opened, said by the answers alone.
-abbrev pub acceptedOf : Address → List (List ℕ) → (e : Event) → Said e → List (List ℕ)
-acceptedOf a so-far (message packet) r = acceptedWith a so-far packet (r .0)
-acceptedOf a so-far (alive packet) r = so-far
-acceptedOf a so-far (clock now) r = so-far
-acceptedOf a so-far question r = so-far
-
-unfoldable pub acceptedIn : Address → List (List ℕ) → (es : List Event) → Answers es → List (List ℕ)
-acceptedIn a so-far [] rs = so-far
-acceptedIn a so-far (e ∷ es) rs = acceptedIn a (acceptedOf a so-far e (rs .0)) es (rs .1)
 
 -- "Whether or not those conditions hold, nothing is ever delivered but a join of pieces accepted since that message last opened, one for each
 -- piece number."

@@ -26,7 +26,7 @@ use Rattle.rules.specs.declared.answers.Outcome.{Outcome}
 use Rattle.rules.specs.declared.answers.Outcome.the-variants as outcome
 use Rattle.rules.specs.declared.answers.Started.{Started}
 use Rattle.rules.specs.declared.answers.Ticked.{Ticked}
-use Rattle.rules.specs.Accepted.{answerTo, partTo, acceptedBy, acceptedSince, acceptedWith}
+use Rattle.rules.specs.Accepted.{acceptedWith, acceptedIn}
 use Rattle.rules.specs.AlivePast.{AliveBy}
 use Rattle.rules.specs.AlivePastLaws.{alive-after, after-alive}
 use Rattle.rules.specs.Admit.{senderRows}
@@ -39,13 +39,12 @@ use Rattle.rules.specs.First.{Row, row}
 use Rattle.rules.specs.FirstLaws.{Given, above, given-above}
 use Rattle.rules.specs.Join.{Joined}
 use Rattle.rules.specs.Message.{area, messageRows, refused}
-use Rattle.rules.specs.Past.{World, Event, message, alive, clock, question, step, after}
+use Rattle.rules.specs.Past.{World, Event, message, alive, clock, question, step, after, answerTo, partTo, Said, said, Answers}
 use Rattle.rules.specs.PastLaws.{Sound}
 use Rattle.rules.specs.SafeLaws.{safe}
 use Rattle.rules.specs.Setup.{setupWithin}
-use Rattle.promises.specs.Course.{Said, Answers, said, answers}
 use Rattle.promises.specs.CourseLaws.{one-call, one-course, next-call, course-start, course-sound}
-use Rattle.promises.specs.Demands.{Refused, rowsOf, Refuses, CallsRefuse, SetupRefuses, CutterRefuses, NeverNine, Alive, Delivery, Safety, acceptedOf, acceptedIn}
+use Rattle.promises.specs.Demands.{Refused, rowsOf, Refuses, CallsRefuse, SetupRefuses, CutterRefuses, NeverNine, Alive, Delivery, Safety}
 
 -- ---- demand 1
 
@@ -169,18 +168,6 @@ delivers q r w m past rs v c sent i may es ts u d between k packet is a x meets 
     Promised : World → Outcome → List ℕ → Type 0
     Promised y out part = Arrives sent (verdictFor (y .state .n1) sent (senderAt (y .state) i .last)) es k out part × (sent .version ≢ 0 → Once sent es out)
 
-accepted-of : (a : Address) (so-far : List (List ℕ)) (w : World) (e : Event) → acceptedOf a so-far e (said w e) ≡ acceptedBy a so-far w e
-unfolding said
-accepted-of a so-far w (message packet) = refl
-accepted-of a so-far w (alive packet) = refl
-accepted-of a so-far w (clock now) = refl
-accepted-of a so-far w question = refl
-
-accepted-in : (a : Address) (so-far : List (List ℕ)) (w : World) (es : List Event) → acceptedIn a so-far es (answers w es) ≡ acceptedSince a so-far w es
-unfolding acceptedIn acceptedSince answers
-accepted-in a so-far w [] = refl
-accepted-in a so-far w (e ∷ es) = accepted-in a (acceptedOf a so-far e (said w e)) (step w e) es ∙ rw (accepted-of a so-far w e)
-
 pub is-safe : Safety
 unfolding said
 is-safe q r w m es rs v c packet a u meets verdict gave =
@@ -190,8 +177,7 @@ is-safe q r w m es rs v c packet a u meets verdict gave =
     let gave′ = subst (λ (y : Said (message packet)). y .0 .outcome ≡ outcome.Delivered verdict) said-is gave in
     let join = safe w start es packet verdict gave′ in
     subst (λ (y : Said (message packet)). Joined (acceptedWith from (acceptedIn from [] es rs) packet (y .0)) packet (y .1)) (sym said-is)
-    (subst (λ (y : Answers es). Joined (acceptedWith from (acceptedIn from [] es y) packet (said (after w es) (message packet) .0)) packet (said (after w es) (message packet) .1)) (sym (one .0))
-    (rw (accepted-in from [] w es) join))
+    (subst (λ (y : Answers es). Joined (acceptedWith from (acceptedIn from [] es y) packet (said (after w es) (message packet) .0)) packet (said (after w es) (message packet) .1)) (sym (one .0)) join)
   where
     from : Address
     from = source (headOf packet)

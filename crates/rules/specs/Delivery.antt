@@ -25,9 +25,9 @@ use Rattle.state.specs.Limits.{addressAt}
 use Rattle.state.specs.State.{senderAt}
 use Rattle.rules.specs.declared.answers.Outcome.{Outcome}
 use Rattle.rules.specs.declared.answers.Outcome.the-variants.{Refused, Stored, Delivered}
-use Rattle.rules.specs.Accepted.{answerTo, isAccepted}
+use Rattle.rules.specs.Accepted.{isAccepted}
 use Rattle.rules.specs.Clock.{clockAnswer}
-use Rattle.rules.specs.Past.{World, Event, message, alive, clock, question, step}
+use Rattle.rules.specs.Past.{World, Event, message, alive, clock, question, step, answerTo}
 use Rattle.rules.specs.View.{isFrom}
 
 -- ---- the message and its pieces

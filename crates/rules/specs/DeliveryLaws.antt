@@ -22,14 +22,14 @@ use Rattle.state.specs.Limits.{addressAt, valid, settingsOf, isN1, isDropTime, 
 use Rattle.state.specs.State.{senderAt}
 use Rattle.state.specs.WithinLaws.{valid-settings, valid-sender, message-facts}
 use Rattle.rules.specs.declared.answers.Outcome.the-variants.{Delivered}
-use Rattle.rules.specs.Accepted.{answerTo, partTo, isAccepted, acceptedBy, acceptedSince}
+use Rattle.rules.specs.Accepted.{isAccepted, acceptedOf, acceptedIn}
 use Rattle.rules.specs.AcceptedLaws.{accepted-is}
 use Rattle.rules.specs.Admit.{rejoins}
 use Rattle.rules.specs.Clock.{drops}
 use Rattle.rules.specs.ClockLaws.{not-reported}
 use Rattle.rules.specs.Delivery.{Sent, count, Numbered, PieceOf, Brings, Came, isOpen, verdictFor, KeptBy, Allowed, Between, OnlyPieces, ElseRefused, May, Arrives, Once}
 use Rattle.rules.specs.Join.{Kin, kinOf, Joined}
-use Rattle.rules.specs.Past.{World, Event, message, alive, clock, question, step, after, Start}
+use Rattle.rules.specs.Past.{World, Event, message, alive, clock, question, step, after, answerTo, partTo, said, answers, Start}
 use Rattle.rules.specs.PastLaws.{Sound, start-sound, past-sound, after-count}
 use Rattle.rules.specs.PhaseLaws.{Phase, phase-same, phase-start, phase-next, phase-last, phase-more, phase-held, phase-once, phase-clock}
 use Rattle.rules.specs.PieceLaws.{Cuttable, least, piece-kin, piece-number, piece-octets}
@@ -69,7 +69,7 @@ module _ (g : Settings) (m : Sent) (k : Cuttable m) (admits : eqb (m .mode) 1 &&
     on-step : (D : ℕ → Type 0) (e : Event) → IfTaken (m .address) Own w e → Phase m last D (stepView g v (seen (m .address) e) .sender) → OnItsWay D (step w e)
     on-step D e f phase = record {
       registered = registered-step g (m .address) i w (o .registered) e;
-      packets = acceptedBy (m .address) (o .packets) w e;
+      packets = acceptedOf (m .address) (o .packets) e (said w e);
       inv = inv-step g (m .address) i w (o .registered) (o .packets) (o .inv) e;
       own = accepted-step g (m .address) i Own w (o .registered) (o .packets) (o .own) e f;
       phase = subst (λ (x : View). Phase m last D (x .sender)) (sym (registered-view g (m .address) i w (o .registered) e)) phase;
@@ -267,7 +267,7 @@ module _ (w₀ : World) (start : Start w₀) (past : List Event) (m : Sent) (i :
   registered₀ = record { sound = start-sound w₀ start; here = here₀; settings = refl; address = sym (stands₁ .address) ∙ may .registered }
 
   packets₁ : List (List ℕ)
-  packets₁ = acceptedSince (m .address) [] w₀ past
+  packets₁ = acceptedIn (m .address) [] past (answers w₀ past)
 
   inv₁ : Inv packets₁ (view w₁ i)
   unfolding packets₁

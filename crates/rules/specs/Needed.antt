@@ -22,11 +22,10 @@ use Rattle.state.specs.State.{senderAt}
 use Rattle.rules.specs.declared.answers.Outcome.{Outcome}
 use Rattle.rules.specs.declared.answers.Outcome.the-variants.{Delivered}
 use Rattle.rules.specs.declared.answers.Setup.{Setup}
-use Rattle.rules.specs.Accepted.{answerTo, partTo}
 use Rattle.rules.specs.CutPieces.{sentBy}
 use Rattle.rules.specs.Delivery.{Sent, PieceOf, verdictFor, May, Between, OnlyPieces, Arrives, Once}
 use Rattle.rules.specs.Message.{area}
-use Rattle.rules.specs.Past.{World, Event, message, clock, question, after, Start}
+use Rattle.rules.specs.Past.{World, Event, message, clock, question, after, answerTo, partTo, Start}
 use Rattle.rules.specs.Setup.{setupAnswer}
 use Rattle.rules.specs.View.{isFrom}
 

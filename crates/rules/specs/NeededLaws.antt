@@ -29,14 +29,13 @@ use Rattle.state.specs.Limits.{lastWithin, messageWithin, senderWithin, newAmon
 use Rattle.state.specs.State.{senderAt, firstWhere}
 use Rattle.rules.specs.declared.answers.Outcome.{Outcome}
 use Rattle.rules.specs.declared.answers.Outcome.the-variants.{Refused, Stored, Delivered}
-use Rattle.rules.specs.Accepted.{partTo}
 use Rattle.rules.specs.Admit.{rejoins, sameCut, senderRows, mapAfter, fills, senderAfter, admitted, outcomeNumber}
 use Rattle.rules.specs.Clock.{aged, agedSenders, mapWhere, ticked, clockAnswer}
 use Rattle.rules.specs.Delivery.{Sent, count, PieceOf, Brings, Came, isOpen, May, Allowed, Between, OnlyPieces, Arrives, Once}
 use Rattle.rules.specs.First.{first}
 use Rattle.rules.specs.Message.{headWithin, messageRows, storageAfter, withSender, taken, refused, messageAnswer, messageStorage}
 use Rattle.rules.specs.Part.{storedPart}
-use Rattle.rules.specs.Past.{World, Event, message, alive, clock, question, step, after, Start}
+use Rattle.rules.specs.Past.{World, Event, message, alive, clock, question, step, after, partTo, Start}
 use Rattle.rules.specs.Setup.{setupWithin, newSenders, setupState, setupAnswer}
 use Rattle.rules.specs.View.{inOrder, isFrom}
 use Rattle.rules.specs.Needed.{Example, sent, packet, setup, start, before, sender, verdict, finds, outcome, Promise, Condition, registered, length-within, unit-within, version-not-0, unheard, no-repeat, none-larger, admits, only-pieces, kept, NoneAsked, Holds, Met, Needed, example, without}

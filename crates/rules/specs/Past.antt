@@ -5,10 +5,16 @@ use mathlib.Core.Path.{_≡_}
 use mathlib.Core.List.{List, [], _∷_}
 use lib.ListN.{length}
 use Rattle.state.specs.declared.Receiver.{Receiver}
+use Rattle.rules.specs.declared.answers.Answer.{Answer}
+use Rattle.rules.specs.declared.answers.Missing.{Missing}
+use Rattle.rules.specs.declared.answers.Noted.{Noted}
 use Rattle.rules.specs.declared.answers.Setup.{Setup}
+use Rattle.rules.specs.declared.answers.Ticked.{Ticked}
 use Rattle.rules.specs.Alive.{aliveAnswer}
 use Rattle.rules.specs.Clock.{clockAnswer}
 use Rattle.rules.specs.Message.{area, messageAnswer, messageStorage}
+use Rattle.rules.specs.Part.{partOf}
+use Rattle.rules.specs.Question.{questionAnswer}
 use Rattle.rules.specs.Setup.{setupAnswer}
 
 -- A receiver, and the storage that is lent to it.
@@ -37,6 +43,39 @@ step w question = w
 unfoldable pub after : World → List Event → World
 after w [] = w
 after w (e ∷ es) = after (step w e) es
+
+-- ---- what the calls say
+
+-- What is answered to a packet, and the part that is then handed over.
+abbrev pub answerTo : World → List ℕ → Answer
+answerTo w packet = messageAnswer (w .state) (length (w .storage)) packet
+
+abbrev pub partTo : World → List ℕ → List ℕ
+partTo w packet = partOf (answerTo w packet .place) packet (messageStorage (w .state) (w .storage) packet)
+
+-- A message call says both.
+abbrev pub Said : Event → Type 0
+Said (message packet) = Answer × List ℕ
+Said (alive packet) = Noted
+Said (clock now) = Ticked
+Said question = Missing
+
+unfoldable pub said : (w : World) (e : Event) → Said e
+said w (message packet) = (answerTo w packet, partTo w packet)
+said w (alive packet) = aliveAnswer (w .state) packet
+said w (clock now) = clockAnswer (w .state) now
+said w question = questionAnswer (w .state)
+
+-- What each of the calls says, in the order of time.
+abbrev pub Answers : List Event → Type 0
+Answers [] = Unit {0}
+Answers (e ∷ es) = Said e × Answers es
+
+unfoldable pub answers : (w : World) (es : List Event) → Answers es
+answers w [] = tt
+answers w (e ∷ es) = (said w e, answers (step w e) es)
+
+-- ---- how a past begins
 
 -- "a setup, storage of its right length with any octets in it"; the setup may have been refused.
 pub record Start (w : World) : Type 0 where

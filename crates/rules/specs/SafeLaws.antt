@@ -27,7 +27,7 @@ use Rattle.state.specs.Table.{source, found}
 use Rattle.state.specs.WithinLaws.{valid-sender, same-is}
 use Rattle.rules.specs.declared.answers.Answer.{Answer}
 use Rattle.rules.specs.declared.answers.Outcome.the-variants.{Refused, Stored, Delivered}
-use Rattle.rules.specs.Accepted.{answerTo, isAccepted, hasOpened, acceptedWith, acceptedBy, acceptedSince, partTo, Safe}
+use Rattle.rules.specs.Accepted.{isAccepted, hasOpened, acceptedWith, acceptedOf, acceptedIn, Safe}
 use Rattle.rules.specs.AcceptedLaws.{accepted-is, opens-is}
 use Rattle.rules.specs.Admit.{rejoins, fills, admitted}
 use Rattle.rules.specs.AdmitLaws.{admitted-facts}
@@ -36,7 +36,7 @@ use Rattle.rules.specs.JoinLaws.{Inv, next-inv, tick-inv, partView, deli
 use Rattle.rules.specs.Message.{area, lengthWrong, headWithin, messageNumber, messageAnswer, messageStorage, storageAfter, liesAt, taken, refused}
 use Rattle.rules.specs.MessageLaws.{Passed, taken-facts, or-false}
 use Rattle.rules.specs.Part.{partOf, storedPart}
-use Rattle.rules.specs.Past.{World, Event, message, alive, clock, question, step, after, Start}
+use Rattle.rules.specs.Past.{World, Event, message, alive, clock, question, step, after, answerTo, partTo, said, answers, Start}
 use Rattle.rules.specs.PastLaws.{Sound, start-sound, start-sender, past-sound, after-count}
 use Rattle.rules.specs.QuestionLaws.{first-holds}
 use Rattle.rules.specs.View.{Settings, settingsFrom, view, inOrder, isFrom, seen, numberOf, stepView}
@@ -221,8 +221,8 @@ IfTaken a P w (clock now) = Unit {0}
 IfTaken a P w question = Unit {0}
 
 module _ (g : Settings) (a : Address) (i : ℕ) where
-  pub inv-step : (w : World) → Registered g a i w → (packets : List (List ℕ)) → Inv packets (view w i) → (e : Event) → Inv (acceptedBy a packets w e) (view (step w e) i)
-  unfolding seen stepView
+  pub inv-step : (w : World) → Registered g a i w → (packets : List (List ℕ)) → Inv packets (view w i) → (e : Event) → Inv (acceptedOf a packets e (said w e)) (view (step w e) i)
+  unfolding said seen stepView
   inv-step w r packets inv (message p) = subst (Inv (acceptedWith a packets p (answerTo w p))) (sym (registered-view g a i w r (message p))) (⊎-elim
       (λ (e : isFrom a p ≡ true).
       rw (e, own-accepted g a i w r packets p e)
@@ -234,14 +234,15 @@ module _ (g : Settings) (a : Address) (i : ℕ) where
   inv-step w r packets inv question = subst (Inv packets) (sym (registered-view g a i w r question)) inv
 
   pub inv-after : (w : World) → Registered g a i w → (packets : List (List ℕ)) → Inv packets (view w i) → (es : List Event)
-      → Inv (acceptedSince a packets w es) (view (after w es) i)
-  unfolding acceptedSince after
+      → Inv (acceptedIn a packets es (answers w es)) (view (after w es) i)
+  unfolding acceptedIn answers after
   inv-after w r packets inv [] = inv
-  inv-after w r packets inv (e ∷ es) = inv-after (step w e) (registered-step g a i w r e) (acceptedBy a packets w e) (inv-step w r packets inv e) es
+  inv-after w r packets inv (e ∷ es) = inv-after (step w e) (registered-step g a i w r e) (acceptedOf a packets e (said w e)) (inv-step w r packets inv e) es
 
   -- What holds of the packets that were accepted, after one more call,
   pub accepted-step : (P : List ℕ → Type 0) (w : World) → Registered g a i w → (packets : List (List ℕ)) → ((q : List ℕ) → List·Memᴰ q packets → P q)
-      → (e : Event) → IfTaken a P w e → (q : List ℕ) → List·Memᴰ q (acceptedBy a packets w e) → P q
+      → (e : Event) → IfTaken a P w e → (q : List ℕ) → List·Memᴰ q (acceptedOf a packets e (said w e)) → P q
+  unfolding said
   accepted-step P w r packets old (message p) f = accepted-each g a i w r packets p P old f
   accepted-step P w r packets old (alive p) f = old
   accepted-step P w r packets old (clock now) f = old
@@ -249,11 +250,11 @@ module _ (g : Settings) (a : Address) (i : ℕ) where
 
   -- and after a past, if it holds of every packet from the address.
   pub accepted-all : (P : List ℕ → Type 0) (w : World) → Registered g a i w → (packets : List (List ℕ)) → ((q : List ℕ) → List·Memᴰ q packets → P q)
-      → (es : List Event) → ((p : List ℕ) → List·Memᴰ (message p) es → isFrom a p ≡ true → P p) → (q : List ℕ) → List·Memᴰ q (acceptedSince a packets w es) → P q
-  unfolding acceptedSince
+      → (es : List Event) → ((p : List ℕ) → List·Memᴰ (message p) es → isFrom a p ≡ true → P p) → (q : List ℕ) → List·Memᴰ q (acceptedIn a packets es (answers w es)) → P q
+  unfolding acceptedIn answers
   accepted-all P w r packets old [] came = old
   accepted-all P w r packets old (e ∷ es) came =
-      accepted-all P (step w e) (registered-step g a i w r e) (acceptedBy a packets w e) (accepted-step P w r packets old e (here e came)) es
+      accepted-all P (step w e) (registered-step g a i w r e) (acceptedOf a packets e (said w e)) (accepted-step P w r packets old e (here e came)) es
       (λ p there. came p (List·Memᴰ·tail there))
     where
       here : (x : Event) → ((p : List ℕ) → List·Memᴰ (message p) (x ∷ es) → isFrom a p ≡ true → P p) → IfTaken a P w x
@@ -324,10 +325,10 @@ module _ (w : World) (start : Start w) (es : List Event) (p : List ℕ) (vd : Ve
   registered₁ = subst (λ (x : Address). Registered g₁ x i₁ w₁) is-source stands
 
   abbrev packets₁ : List (List ℕ)
-  packets₁ = acceptedSince a₁ [] w es
+  packets₁ = acceptedIn a₁ [] es (answers w es)
 
   inv₁ : Inv packets₁ (view w₁ i₁)
-  inv₁ = subst (λ (x : Address). Inv (acceptedSince x [] w es) (view w₁ i₁)) is-source
+  inv₁ = subst (λ (x : Address). Inv (acceptedIn x [] es (answers w es)) (view w₁ i₁)) is-source
       (inv-after g₁ (addressAt (w .state .senders) i₁) i₁ w (start-registered w start i₁ here₁) [] (start-inv w start i₁ here₁) es)
 
   mine₁ : isFrom a₁ p ≡ true
