@@ -31,12 +31,12 @@ use Rattle.rules.specs.Past.{World, Event, message, step, after}
 use Rattle.rules.specs.PastLaws.{start-sender}
 use Rattle.rules.specs.PieceLaws.{Cuttable, piece-number}
 use Rattle.promises.specs.CourseLaws.{course-start}
-use Rattle.promises.specs.Demands.{Written, ComesBack}
+use Rattle.promises.specs.Demands.{CutterWrote, ComesBack}
 use Rattle.promises.specs.DemandsLaws.{delivers}
 
 -- ---- what the cutter wrote is a piece
 
-module _ (g : Given) (octets : List ℕ) (u c : ℕ) (packet : List ℕ) (wrote : Written g octets u c packet) where
+module _ (g : Given) (octets : List ℕ) (u c : ℕ) (packet : List ℕ) (wrote : CutterWrote g octets u c packet) where
   abbrev room : ℕ
   room = length (wrote .buffer)
 
@@ -114,5 +114,5 @@ comes-back q r w meets g words octets u i here address admits packets wrote orde
       admits = admits;
     } in
     let arrives = delivers q r w meets [] tt w refl m i may (arrive m i packets order) rs v course (only-its m i packets w order are) last (packets last) last-is a x meets-last in
-    let got = arrives .0 .delivered (λ came. any .missing (came-its m i packets k order are last came)) (λ d numbered ne. its-came m i packets order are d (any .others d numbered ne)) in
+    let got = arrives .0 .delivered (λ came. any .missing (came-its m i packets k order are last came), λ d numbered ne. its-came m i packets order are d (any .others d numbered ne)) in
     (got .0 ∙ ap (λ (s : Sender). outcome.Delivered (verdictFor (w .state .n1) m (s .last))) is, got .1)

@@ -31,7 +31,7 @@ use Rattle.rules.specs.Alive.{aliveRows}
 use Rattle.rules.specs.AlivePast.{AliveBy}
 use Rattle.rules.specs.Clock.{clockRows}
 use Rattle.rules.specs.CutPieces.{sentBy}
-use Rattle.rules.specs.Delivery.{Sent, Numbered, PieceOf, May, Between, OnlyPieces, verdictFor, Arrives, Once}
+use Rattle.rules.specs.Delivery.{Sent, Numbered, PieceOf, May, Between, OnlyPieces, verdictFor, OneApplies, Arrives, Once}
 use Rattle.rules.specs.First.{Row, row}
 use Rattle.rules.specs.FirstLaws as rows
 use Rattle.rules.specs.Join.{Joined}
@@ -44,11 +44,11 @@ use Rattle.promises.specs.Course.{Meets, Course, SetupMeets, CutterMeets
 -- ---- demand 1
 
 -- Number k was answered.
-abbrev pub Refused : (e : Event) → Said e → ℕ → Type 0
-Refused (message packet) r k = r .0 .outcome ≡ outcome.Refused k
-Refused (alive packet) r k = r .call ≡ call.Refused k
-Refused (clock now) r k = r .call ≡ call.Refused k
-Refused question r k = r ≡ missing.Refused k
+abbrev pub RefusedWith : (e : Event) → Said e → ℕ → Type 0
+RefusedWith (message packet) r k = r .0 .outcome ≡ outcome.Refused k
+RefusedWith (alive packet) r k = r .call ≡ call.Refused k
+RefusedWith (clock now) r k = r .call ≡ call.Refused k
+RefusedWith question r k = r ≡ missing.Refused k
 
 -- The numbers of a call, with their conditions, in the order in which they are tried.
 abbrev pub rowsOf : World → Event → List Row
@@ -66,7 +66,7 @@ pub record Refuses (table : List Row) (answered : ℕ → Type 0) (unchanged : T
 
 -- "Any octets may arrive, in any order of calls, at every public entry."
 abbrev pub CallsRefuse : Type 0
-CallsRefuse = (w : World) (e : Event) (r : Said e) (v : World) → Meets w e r v → Refuses (rowsOf w e) (Refused e r) (v ≡ w)
+CallsRefuse = (w : World) (e : Event) (r : Said e) (v : World) → Meets w e r v → Refuses (rowsOf w e) (RefusedWith e r) (v ≡ w)
 
 -- "10: setup outside its limits: empty state"
 abbrev pub SetupRefuses : Type 0
@@ -84,12 +84,12 @@ AfterPast P = (q : Setup) (r : Started) (w : World) → SetupMeets q r w → (es
 
 -- No past meets 9 or 11.
 abbrev pub NeverNine : Type 0
-NeverNine = AfterPast (λ w es rs v. (e : Event) (r : Said e) (u : World) → Meets v e r u → ¬ (Refused e r 9) × ¬ (Refused e r 11))
+NeverNine = AfterPast (λ w es rs v. (e : Event) (r : Said e) (u : World) → Meets v e r u → ¬ (RefusedWith e r 9) × ¬ (RefusedWith e r 11))
 
 -- ---- demand 2
 
 -- A PDU that our cutter wrote: as many octets as it answered, from the beginning of the buffer.
-pub record Written (g : Given) (octets : List ℕ) (u c : ℕ) (packet : List ℕ) : Type 0 where
+pub record CutterWrote (g : Given) (octets : List ℕ) (u c : ℕ) (packet : List ℕ) : Type 0 where
   pub buffer : List ℕ
   pub left : List ℕ
   pub cut : CutterMeets g octets u c buffer (cutting.Written (length packet)) left
@@ -108,15 +108,15 @@ abbrev pub ComesBack : Type 0
 ComesBack = (q : Setup) (r : Started) (w : World) → SetupMeets q r w
     → (g : Given) → Words g → (octets : List ℕ) (u : ℕ)
     → (i : ℕ) → i < w .state .count → addressAt (w .state .senders) i ≡ sentBy g octets u .address → eqb (g .mode) 1 && not (w .state .test) ≡ false
-    → (packets : ℕ → List ℕ) → ((c : ℕ) → Numbered (sentBy g octets u) c → Written g octets u c (packets c))
+    → (packets : ℕ → List ℕ) → ((c : ℕ) → Numbered (sentBy g octets u) c → CutterWrote g octets u c (packets c))
     → (order : List ℕ) (last : ℕ) → AnyOrder (sentBy g octets u) order last
     → let es = map (λ c. message (packets c)) order in
     (rs : Answers es) (v : World) → Course w es rs v → (a : Said (message (packets last))) (x : World) → Meets v (message (packets last)) a x
     → (a .0 .outcome ≡ outcome.Delivered (verdictFor (w .state .n1) (sentBy g octets u) noLast)) × (a .1 ≡ octets)
 
 -- "the judging of alive signals": who is alive after a past is what the past alone says.
-abbrev pub Alive : Type 0
-Alive = AfterPast (λ w es rs v. (i : ℕ) → i < w .state .count
+abbrev pub WhoIsAlive : Type 0
+WhoIsAlive = AfterPast (λ w es rs v. (i : ℕ) → i < w .state .count
     → (senderAt (v .state) i .alive ≡ true → AliveBy (addressAt (w .state .senders) i) es)
     × (AliveBy (addressAt (w .state .senders) i) es → senderAt (v .state) i .alive ≡ true))
 
@@ -124,12 +124,13 @@ Alive = AfterPast (λ w es rs v. (i : ℕ) → i < w .state .count
 
 -- "Let a receiver have any past at all … Now a registered sender's message arrives in its pieces, cut by the rules, in any order and some of
 -- them more than once, with other senders' packets between. If …, then it is delivered once, octet for octet, at the arrival of the last
--- missing piece."
-abbrev pub Delivery : Type 0
-Delivery = AfterPast (λ w past rs v. (m : Sent) (i : ℕ) → May m i past v
+-- missing piece." Every other arrival of a piece is stored, or refused with 20, or, if the version is not 0, with 17: one of the cases applies.
+abbrev pub DeliveredOnce : Type 0
+DeliveredOnce = AfterPast (λ w past rs v. (m : Sent) (i : ℕ) → May m i past v
     → (es : List Event) (ts : Answers es) (u : World) → Course v es ts u → Between (OnlyPieces m) m i v es
     → (c : ℕ) (packet : List ℕ) → PieceOf m c packet → (r : Said (message packet)) (x : World) → Meets u (message packet) r x
-    → Arrives m (verdictFor (v .state .n1) m (senderAt (v .state) i .last)) es c (r .0 .outcome) (r .1) × (m .version ≢ 0 → Once m es (r .0 .outcome)))
+    → Arrives m (verdictFor (v .state .n1) m (senderAt (v .state) i .last)) es c (r .0 .outcome) (r .1)
+    × (m .version ≢ 0 → Once m es (r .0 .outcome)) × OneApplies m es c)
 
 -- "Whether or not those conditions hold, nothing is ever delivered but a join of pieces accepted since that message last opened, one for each
 -- piece number."
@@ -164,8 +165,8 @@ pub record Demands : Type 0 where
   pub cutter-refuses : CutterRefuses
   pub never-nine : NeverNine
   pub comes-back : ComesBack
-  pub alive-is : Alive
-  pub delivers : Delivery
+  pub alive-is : WhoIsAlive
+  pub delivers : DeliveredOnce
   pub is-safe : Safety
   pub one-course : OneCourse
   pub one-start : OneStart

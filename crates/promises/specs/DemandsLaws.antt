@@ -31,6 +31,7 @@ use Rattle.rules.specs.AlivePast.{AliveBy}
 use Rattle.rules.specs.AlivePastLaws.{alive-after, after-alive}
 use Rattle.rules.specs.Admit.{senderRows}
 use Rattle.rules.specs.Alive.{aliveRows}
+use Rattle.rules.specs.CameLaws.{one-applies}
 use Rattle.rules.specs.Clock.{notTicked}
 use Rattle.rules.specs.Delivery.{May, Between, OnlyPieces, verdictFor, Arrives, Once}
 use Rattle.rules.specs.DeliveryLaws.{arrives-only}
@@ -44,11 +45,11 @@ use Rattle.rules.specs.PastLaws.{Sound}
 use Rattle.rules.specs.SafeLaws.{safe}
 use Rattle.rules.specs.Setup.{setupWithin}
 use Rattle.promises.specs.CourseLaws.{one-call, one-course, next-call, course-start, course-sound}
-use Rattle.promises.specs.Demands.{Refused, rowsOf, Refuses, CallsRefuse, SetupRefuses, CutterRefuses, NeverNine, Alive, Delivery, Safety}
+use Rattle.promises.specs.Demands.{RefusedWith, rowsOf, Refuses, CallsRefuse, SetupRefuses, CutterRefuses, NeverNine, WhoIsAlive, DeliveredOnce, Safety}
 
 -- ---- demand 1
 
-said-refuses : (w : World) (e : Event) → Refuses (rowsOf w e) (Refused e (said w e)) (step w e ≡ w)
+said-refuses : (w : World) (e : Event) → Refuses (rowsOf w e) (RefusedWith e (said w e)) (step w e ≡ w)
 unfolding said step
 said-refuses w (message packet) = record {
   only-if = message-given (w .state) (w .storage) packet;
@@ -72,8 +73,8 @@ said-refuses w question = record { only-if = question-given (w .state); if-first
 pub calls-refuse : CallsRefuse
 calls-refuse w e r v m =
     let is = one-call w e r v m in
-    subst (λ (x : Said e). Refuses (rowsOf w e) (Refused e x) (v ≡ w)) (sym (is .0))
-    (subst (λ (x : World). Refuses (rowsOf w e) (Refused e (said w e)) (x ≡ w)) (sym (is .1)) (said-refuses w e))
+    subst (λ (x : Said e). Refuses (rowsOf w e) (RefusedWith e x) (v ≡ w)) (sym (is .0))
+    (subst (λ (x : World). Refuses (rowsOf w e) (RefusedWith e (said w e)) (x ≡ w)) (sym (is .1)) (said-refuses w e))
 
 -- One row, which applies or not.
 one-row : (k : ℕ) (b : Bool) (answered : ℕ → Type 0) (unchanged : Type 0) → ((j : ℕ) → answered j → (j ≡ k) × (b ≡ true)) → (b ≡ true → answered k)
@@ -146,7 +147,7 @@ never-nine q r w m es rs v c e a u meets =
 
 -- ---- demand 2
 
-pub alive-is : Alive
+pub alive-is : WhoIsAlive
 alive-is q r w m es rs v c i here =
     let start = course-start q r w m in
     let is = one-course w es rs v c .1 in
@@ -155,7 +156,7 @@ alive-is q r w m es rs v c i here =
 
 -- ---- demand 3
 
-pub delivers : Delivery
+pub delivers : DeliveredOnce
 unfolding said
 delivers q r w m past rs v c sent i may es ts u d between k packet is a x meets =
     let start = course-start q r w m in
@@ -163,7 +164,8 @@ delivers q r w m past rs v c sent i may es ts u d between k packet is a x meets 
     let at-past = arrives-only w start past sent i (subst (May sent i past) past-is may) es (subst (λ (y : World). Between (OnlyPieces sent) sent i y es) past-is between) k packet is in
     let at-v = subst (λ (y : World). Promised y (answerTo (after y es) packet .outcome) (partTo (after y es) packet)) (sym past-is) at-past in
     let said-is = next-call v es ts u d (message packet) a x meets .0 in
-    subst (λ (y : Said (message packet)). Promised v (y .0 .outcome) (y .1)) (sym said-is) at-v
+    let promised = subst (λ (y : Said (message packet)). Promised v (y .0 .outcome) (y .1)) (sym said-is) at-v in
+    (promised .0, promised .1, one-applies sent es k)
   where
     Promised : World → Outcome → List ℕ → Type 0
     Promised y out part = Arrives sent (verdictFor (y .state .n1) sent (senderAt (y .state) i .last)) es k out part × (sent .version ≢ 0 → Once sent es out)

@@ -125,18 +125,40 @@ OnlyPieces m w packet = (c : ℕ) × PieceOf m c packet
 abbrev pub ElseRefused : Sent → World → List ℕ → Type 0
 ElseRefused m w packet = ((c : ℕ) × PieceOf m c packet) ⊎ (((c : ℕ) → ¬ (PieceOf m c packet)) × (isAccepted (answerTo w packet) ≡ false))
 
+-- ---- the arrival of piece c, after the calls es since the past
+
+-- It is the last missing piece.
+abbrev pub LastMissing : Sent → List Event → ℕ → Type 0
+LastMissing m es c = ¬ (Came m c es) × ((d : ℕ) → Numbered m d → d ≢ c → Came m d es)
+
+-- Another one is missing too.
+abbrev pub OneOfSeveral : Sent → List Event → ℕ → Type 0
+OneOfSeveral m es c = ¬ (Came m c es) × ((d : ℕ) × Numbered m d × (d ≢ c) × ¬ (Came m d es))
+
+-- It came before, and some piece is missing.
+abbrev pub CameBefore : Sent → List Event → ℕ → Type 0
+CameBefore m es c = Came m c es × ((d : ℕ) × Numbered m d × ¬ (Came m d es))
+
+-- All came before.
+abbrev pub AllCame : Sent → List Event → Type 0
+AllCame m es = (d : ℕ) → Numbered m d → Came m d es
+
+-- One of the four applies to every arrival: `one-applies` (CameLaws.antt).
+pub data OneApplies (m : Sent) (es : List Event) (c : ℕ) : Type 0 where
+  is-last : LastMissing m es c → OneApplies m es c
+  is-one : OneOfSeveral m es c → OneApplies m es c
+  came-before : CameBefore m es c → OneApplies m es c
+  all-came : AllCame m es → OneApplies m es c
+
 -- ---- what is promised
 
 -- "then it is delivered …, octet for octet, at the arrival of the last missing piece": the outcome of the call with the PDU of piece c, and the
--- part that is then handed over, after the calls es since the past. The verdict is what the check gave after the past.
+-- part that is then handed over. The verdict is what the check gave after the past.
 pub record Arrives (m : Sent) (verdict : Verdict) (es : List Event) (c : ℕ) (outcome : Outcome) (part : List ℕ) : Type 0 where
-  -- It is the last missing piece.
-  pub delivered : ¬ (Came m c es) → ((d : ℕ) → Numbered m d → d ≢ c → Came m d es) → (outcome ≡ Delivered verdict) × (part ≡ m .octets)
-  -- Another one is missing too.
-  pub stored : ¬ (Came m c es) → (d : ℕ) → Numbered m d → d ≢ c → ¬ (Came m d es) → outcome ≡ Stored
-  -- It came before, and some piece is missing.
-  pub held : Came m c es → (d : ℕ) → Numbered m d → ¬ (Came m d es) → outcome ≡ Refused 20
+  pub delivered : LastMissing m es c → (outcome ≡ Delivered verdict) × (part ≡ m .octets)
+  pub stored : OneOfSeveral m es c → outcome ≡ Stored
+  pub held : CameBefore m es c → outcome ≡ Refused 20
 
 -- "once": all came before, so the message was delivered. "If its version is not 0" is asked for this alone.
 abbrev pub Once : Sent → List Event → Outcome → Type 0
-Once m es outcome = ((d : ℕ) → Numbered m d → Came m d es) → outcome ≡ Refused 17
+Once m es outcome = AllCame m es → outcome ≡ Refused 17

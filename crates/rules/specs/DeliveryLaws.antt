@@ -212,9 +212,9 @@ module _ (g : Settings) (m : Sent) (k : Cuttable m) (admits : eqb (m .mode) 1 &&
     arrives : Arrives m (verdictFor (g .n1) m last) es c (answerTo w p .outcome) (partTo w p) × (m .version ≢ 0 → Once m es (answerTo w p .outcome))
     arrives = (
       record {
-        delivered = λ none rest. (gave none rest, handed none rest);
-        stored = λ none d numbered ne missing. outcome-is ∙ phase-more g m k admits last new here Before c p is (o .phase) none d numbered ne missing;
-        held = λ came d numbered missing. outcome-is ∙ phase-held g m k admits last new here Before c p is (o .phase) came d numbered missing;
+        delivered = λ x. (gave (x .0) (x .1), handed (x .0) (x .1));
+        stored = λ x. outcome-is ∙ phase-more g m k admits last new here Before c p is (o .phase) (x .0) (x .1 .0) (x .1 .1) (x .1 .2) (x .1 .3);
+        held = λ x. outcome-is ∙ phase-held g m k admits last new here Before c p is (o .phase) (x .0) (x .1 .0) (x .1 .1) (x .1 .2);
       },
       λ some all. outcome-is ∙ phase-once g m k admits last new here Before c p is one some (o .phase) all,
     )

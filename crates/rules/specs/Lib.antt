@@ -31,6 +31,7 @@ pub mod Accepted
 pub mod AcceptedLaws
 pub mod SafeLaws
 pub mod Delivery
+pub mod CameLaws
 pub mod CutPieces
 pub mod PieceLaws
 pub mod PhaseLaws

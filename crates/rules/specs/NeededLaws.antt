@@ -1,17 +1,16 @@
 -- The conditions of delivery can be met, and each is needed: every condition is decided by computing, and so is what is promised, and the
 -- examples of `Needed` are computed. Assumes nothing.
-use Prim.Native.Nat.{ℕ, zero, suc, _≤_, _<_}
+use Prim.Native.Nat.{ℕ, zero, suc, _<_}
 use mathlib.Core.Path.{_≡_, refl, sym, ap, subst, _∙_}
-use mathlib.Core.Logic.{_≢_, _⊎_, inl, inr, ⊎-elim, ite, Dec·and, Dec·not}
+use mathlib.Core.Logic.{_≢_, ⊎-elim, ite, Dec·and, Dec·not}
 use mathlib.Core.Bool.{Bool, true, false, not, _&&_, false≢true}
 use mathlib.Core.List.{List, [], _∷_, List·Memᴰ, List·Memᴰ·head, List·Memᴰ·tail, List·Memᴰ·cases-cons, List·Memᴰ·not-nil, List·Memᴰ·eq-of-singleton}
 use native.Mathlib.Omega.{arith}
-use lib.Dec.{eqb, leb}
-use lib.ListN.{length, drop, getD, length-replicate}
-use borrow.Author.Tests.{eqb-true, eq-eqb, leb-true, le-leb}
+use lib.Dec.{eqb}
+use lib.ListN.{length, getD, length-replicate}
+use borrow.Author.Tests.{eq-eqb}
 use Rattle.octets.specs.Number.{number, octets}
 use Rattle.octets.specs.Run.{run, laid}
-use Rattle.octets.specs.Split.{eq-or-ne}
 use Rattle.ring.specs.declared.Verdict.{Verdict}
 use Rattle.ring.specs.Check.{check, rule4, isRepeat}
 use Rattle.ring.specs.Ring.{remainder, newer}
@@ -19,8 +18,7 @@ use Rattle.header.specs.declared.Cut.{Cut}
 use Rattle.codes.specs.Codes.{codeOf}
 use Rattle.header.specs.Head.{header, headOf, isFixed}
 use Rattle.header.specs.Layout.{layout, tabulate, octetOf}
-use Rattle.header.specs.Places.{headerSize}
-use Rattle.cutter.specs.Cutter.{cutFor, pdu}
+use Rattle.cutter.specs.Cutter.{pdu}
 use Rattle.cut.specs.Pieces.{mostOctets, pieces, pieceLength, piece}
 use Rattle.cut.specs.Possible.{unit, isUnit, frontPossible, lastPossible, severalPossible, possible}
 use Rattle.map.specs.Map.{bit}
@@ -30,8 +28,9 @@ use Rattle.state.specs.State.{senderAt, firstWhere}
 use Rattle.rules.specs.declared.answers.Outcome.{Outcome}
 use Rattle.rules.specs.declared.answers.Outcome.the-variants.{Refused, Stored, Delivered}
 use Rattle.rules.specs.Admit.{rejoins, sameCut, senderRows, mapAfter, fills, senderAfter, admitted, outcomeNumber}
+use Rattle.rules.specs.CameLaws.{decided, dec-by, dec-or, dec-true, dec-eq, dec-le, dec-octets, dec-cut, dec-piece, dec-brings, dec-came, others, one-applies}
 use Rattle.rules.specs.Clock.{aged, agedSenders, mapWhere, ticked, clockAnswer}
-use Rattle.rules.specs.Delivery.{Sent, count, PieceOf, Brings, Came, isOpen, May, Allowed, Between, OnlyPieces, Arrives, Once}
+use Rattle.rules.specs.Delivery.{Sent, PieceOf, isOpen, May, Allowed, Between, OnlyPieces, OneApplies, is-last, is-one, came-before, all-came, Arrives, Once}
 use Rattle.rules.specs.First.{first}
 use Rattle.rules.specs.Message.{headWithin, messageRows, storageAfter, withSender, taken, refused, messageAnswer, messageStorage}
 use Rattle.rules.specs.Part.{storedPart}
@@ -42,49 +41,14 @@ use Rattle.rules.specs.Needed.{Example, sent, packet, setup, start, befo
 
 -- ---- decisions that compute
 
-decided : {A : Type 0} (b : Bool) → (b ≡ true → A) → (A → b ≡ true) → Dec A
-decided true f g = yes (f refl)
-decided false f g = no (λ a. false≢true (g a))
-
-dec-by : {A B : Type 0} → (A → B) → (B → A) → Dec A → Dec B
-dec-by f g (yes a) = yes (f a)
-dec-by f g (no n) = no (λ b. n (g b))
-
 dec-if : {A B : Type 0} → Dec A → Dec B → Dec (A → B)
 dec-if (yes a) (yes b) = yes (λ _. b)
 dec-if (yes a) (no n) = no (λ f. n (f a))
 dec-if (no n) d = yes (λ a. absurd (n a))
 
-dec-or : {A B : Type 0} → Dec A → Dec B → Dec (A ⊎ B)
-dec-or (yes a) d = yes (inl a)
-dec-or (no n) (yes b) = yes (inr b)
-dec-or (no n) (no k) = no (λ s. ⊎-elim n k s)
-
-dec-true : (b : Bool) → Dec (b ≡ true)
-dec-true true = yes refl
-dec-true false = no false≢true
-
 dec-false : (b : Bool) → Dec (b ≡ false)
 dec-false true = no (λ e. false≢true (sym e))
 dec-false false = yes refl
-
-dec-eq : (a b : ℕ) → Dec (a ≡ b)
-dec-eq a b = decided (eqb a b) (eqb-true a b) (eq-eqb a b)
-
-dec-le : (a b : ℕ) → Dec (a ≤ b)
-dec-le a b = decided (leb a b) (leb-true a b) (le-leb a b)
-
-dec-octets : (a b : List ℕ) → Dec (a ≡ b)
-dec-octets [] [] = yes refl
-dec-octets [] (y ∷ b) = no (λ e. let z : _≡_ {A = ℕ} 0 1 = cc in omega arith)
-dec-octets (x ∷ a) [] = no (λ e. let z : _≡_ {A = ℕ} 0 1 = cc in omega arith)
-dec-octets (x ∷ a) (y ∷ b) = dec-by (λ f. rw (f .0, f .1)) (λ e. (cc, cc)) (Dec·and (dec-eq x y) (dec-octets a b))
-
-dec-cut : (a b : Cut) → Dec (a ≡ b)
-dec-cut a b = dec-by
-    (λ f. λ i. record { ml = f .0 .0 i; bsize = f .0 .1 i; cbn = f .1 .0 i; tbn = f .1 .1 i })
-    (λ e. ((rw e, rw e), (rw e, rw e)))
-    (Dec·and (Dec·and (dec-eq (a .ml) (b .ml)) (dec-eq (a .bsize) (b .bsize))) (Dec·and (dec-eq (a .cbn) (b .cbn)) (dec-eq (a .tbn) (b .tbn))))
 
 dec-address : (a b : Address) → Dec (a ≡ b)
 dec-address a b = dec-by
@@ -92,87 +56,28 @@ dec-address a b = dec-by
     (λ e. (rw e, rw e))
     (Dec·and (dec-eq (a .field .0) (b .field .0)) (dec-eq (a .node .0) (b .node .0)))
 
--- ---- whether a packet is a piece, and whether a piece came
-
-module _ (m : Sent) where
-  dec-piece : (c : ℕ) (p : List ℕ) → Dec (PieceOf m c p)
-  dec-piece c p = dec-by
-      (λ f. record {
-        numbered = f .0 .0;
-        from = f .0 .1;
-        version = f .1 .0 .0;
-        number = f .1 .0 .1;
-        code = f .1 .1 .0 .0;
-        mode = f .1 .1 .0 .1;
-        cut = f .1 .1 .1 .0;
-        octets = f .1 .1 .1 .1;
-      })
-      (λ f. ((f .numbered, f .from), ((f .version, f .number), ((f .code, f .mode), (f .cut, f .octets)))))
-      (Dec·and (Dec·and (Dec·and (dec-le 1 c) (dec-le c (count m))) (dec-true (isFrom (m .address) p)))
-      (Dec·and (Dec·and (dec-eq (headOf p .given .version .0) (m .version)) (dec-eq (headOf p .given .number .0) (m .number)))
-      (Dec·and (Dec·and (dec-eq (headOf p .given .tcd) (m .code)) (dec-eq (headOf p .given .mode) (m .mode)))
-      (Dec·and (dec-cut (headOf p .cut) (cutFor (length (m .octets)) (m .u) c)) (dec-octets (drop headerSize p) (piece (m .octets) (m .u) c))))))
-
-  -- Its CBN says which piece it is, if it is one.
-  dec-some : (p : List ℕ) → Dec ((c : ℕ) × PieceOf m c p)
-  dec-some p = dec-by
-      (λ f. (headOf p .cut .cbn, f))
-      (λ f. let e : f .0 ≡ headOf p .cut .cbn = sym (ap (λ (x : Cut). x .cbn) (f .1 .cut)) in subst (λ (c : ℕ). PieceOf m c p) e (f .1))
-      (dec-piece (headOf p .cut .cbn) p)
-
-  dec-brings : (c : ℕ) (e : Event) → Dec (Brings m c e)
-  dec-brings c (message p) = dec-piece c p
-  dec-brings c (alive p) = no (λ z. z)
-  dec-brings c (clock now) = no (λ z. z)
-  dec-brings c question = no (λ z. z)
-
-  dec-came : (c : ℕ) (es : List Event) → Dec (Came m c es)
-  dec-came c [] = no (λ z. z)
-  dec-came c (e ∷ es) = dec-or (dec-brings c e) (dec-came c es)
+-- Its CBN says which piece it is, if it is one.
+dec-some : (m : Sent) (p : List ℕ) → Dec ((c : ℕ) × PieceOf m c p)
+dec-some m p = dec-by
+    (λ f. (headOf p .cut .cbn, f))
+    (λ f. let e : f .0 ≡ headOf p .cut .cbn = sym (ap (λ (x : Cut). x .cbn) (f .1 .cut)) in subst (λ (c : ℕ). PieceOf m c p) e (f .1))
+    (dec-piece m (headOf p .cut .cbn) p)
 
 -- ---- what is promised of the piece that comes
 
-module _ (m : Sent) (c : ℕ) (es : List Event) where
-  -- Of the first k pieces all but c came, or another one did not.
-  abbrev OthersCame : ℕ → Type 0
-  OthersCame k = (d : ℕ) → 1 ≤ d → d ≤ k → d ≢ c → Came m d es
+module _ (m : Sent) (es : List Event) (c : ℕ) where
+  promisedBy : Verdict → OneApplies m es c → Outcome
+  promisedBy v (is-last x) = Delivered v
+  promisedBy v (is-one x) = Stored
+  promisedBy v (came-before x) = Refused 20
+  promisedBy v (all-came x) = Refused 17
 
-  record Missing (k : ℕ) : Type 0 where
-    other : ℕ
-    low : 1 ≤ other
-    high : other ≤ k
-    apart : other ≢ c
-    not-come : ¬ Came m other es
-
-  others : (k : ℕ) → OthersCame k ⊎ Missing k
-  others zero = inl (λ d low high. absurd (omega arith))
-  others (suc k) = more (others k) (dec-eq (suc k) c) (dec-came m (suc k) es)
-    where
-      more : OthersCame k ⊎ Missing k → Dec (suc k ≡ c) → Dec (Came m (suc k) es) → OthersCame (suc k) ⊎ Missing (suc k)
-      more (inr z) q d = inr (record { other = z .other; low = z .low; high = omega (arith, z .high); apart = z .apart; not-come = z .not-come })
-      more (inl f) (yes e) d = inl (λ x low high ne. f x low (omega (arith, ne)) ne)
-      more (inl f) (no n) (no z) = inr (record { other = suc k; low = omega arith; high = omega arith; apart = n; not-come = z })
-      more (inl f) (no n) (yes y) = inl (λ x low high ne. ⊎-elim
-          (λ (e : x ≡ suc k). subst (λ (z : ℕ). Came m z es) (sym e) y)
-          (λ (e : x ≢ suc k). f x low (omega (arith, e)) ne)
-          (eq-or-ne x (suc k)))
-
-  promisedBy : Verdict → Dec (Came m c es) → OthersCame (count m) ⊎ Missing (count m) → Outcome
-  promisedBy v (yes y) (inl o) = Refused 17
-  promisedBy v (yes y) (inr o) = Refused 20
-  promisedBy v (no n) (inl o) = Delivered v
-  promisedBy v (no n) (inr o) = Stored
-
-  promised-is : (v : Verdict) (o : Outcome) (part : List ℕ) → Arrives m v es c o part × Once m es o
-      → (came : Dec (Came m c es)) (rest : OthersCame (count m) ⊎ Missing (count m)) → o ≡ promisedBy v came rest
+  promised-is : (v : Verdict) (o : Outcome) (part : List ℕ) → Arrives m v es c o part × Once m es o → (x : OneApplies m es c) → o ≡ promisedBy v x
   unfolding promisedBy
-  promised-is v o part a (yes y) (inl rest) = a .1 (λ d n. ⊎-elim
-      (λ (e : d ≡ c). subst (λ (x : ℕ). Came m x es) (sym e) y)
-      (λ (e : d ≢ c). rest d (n .0) (n .1) e)
-      (eq-or-ne d c))
-  promised-is v o part a (yes y) (inr z) = a .0 .held y (z .other) (z .low, z .high) (z .not-come)
-  promised-is v o part a (no n) (inl rest) = a .0 .delivered n (λ d k e. rest d (k .0) (k .1) e) .0
-  promised-is v o part a (no n) (inr z) = a .0 .stored n (z .other) (z .low, z .high) (z .apart) (z .not-come)
+  promised-is v o part a (is-last x) = a .0 .delivered x .0
+  promised-is v o part a (is-one x) = a .0 .stored x
+  promised-is v o part a (came-before x) = a .0 .held x
+  promised-is v o part a (all-came x) = a .1 x
 
 -- ---- whether a condition holds
 
@@ -240,13 +145,12 @@ record Row : Type 0 where
   same : Bool
 
 promise : Example → Outcome
-promise e =
-    promisedBy (sent e) (e .piece) (e .since) (verdict e) (dec-came (sent e) (e .piece) (e .since)) (others (sent e) (e .piece) (e .since) (count (sent e)))
+promise e = promisedBy (sent e) (e .since) (e .piece) (verdict e) (one-applies (sent e) (e .since) (e .piece))
 
 -- All that is computed with stands in this line: who unfolds `row` unfolds it.
 row : Example → Row
 unfolding
-    decided dec-by dec-if dec-or dec-true dec-false dec-eq dec-le dec-octets dec-cut dec-address dec-piece dec-some dec-brings dec-came others promisedBy
+    decided dec-by dec-if dec-or dec-true dec-false dec-eq dec-le dec-octets dec-cut dec-address dec-piece dec-some dec-brings dec-came others one-applies promisedBy
     each-later dec-each dec-allowed dec-kept decide failing conditions promise Dec·and Dec·not
     example without start setup after step
     run laid number octets check rule4 remainder newer layout tabulate octetOf codeOf header headOf isFixed pdu pieces pieceLength piece
@@ -332,7 +236,7 @@ module _ (e : Example) where
 
   promise-is : Promise e → outcome e ≡ promise e
   unfolding promise
-  promise-is a = promised-is (sent e) (e .piece) (e .since) (verdict e) (outcome e) (partTo (finds e) (packet e)) a _ _
+  promise-is a = promised-is (sent e) (e .since) (e .piece) (verdict e) (outcome e) (partTo (finds e) (packet e)) a _
 
   -- What a row says of its example.
   record Facts (fail : List Condition) (same : Bool) : Type 0 where
