@@ -9,7 +9,7 @@ use native.Mathlib.Omega.{arith}
 use lib.Count.{ones}
 use lib.Dec.{eqb}
 use borrow.Author.Tests.{eq-eqb, ne-eqb}
-use Rattle.octets.specs.Split.{eq-or-ne, true-or-false, cond-case, and-left}
+use Rattle.octets.specs.Split.{eq-or-ne, true-or-false, cond-case, or-right}
 use Rattle.header.specs.declared.Head.{Head}
 use Rattle.header.specs.Head.{headOf}
 use Rattle.cut.specs.PossibleLaws.{possible-facts, several-facts}
@@ -24,7 +24,7 @@ use Rattle.state.specs.WithinLaws.{MessageWithin, message-facts}
 use Rattle.rules.specs.declared.answers.Answer.{Answer}
 use Rattle.rules.specs.Accepted.{isAccepted}
 use Rattle.rules.specs.Admit.{rejoins, mapAfter, fills, heldAfter}
-use Rattle.rules.specs.AdmitLaws.{Admitted, admitted-zero}
+use Rattle.rules.specs.AdmitLaws.{Admitted, rejoins-open, admitted-zero}
 use Rattle.rules.specs.Join.{Kin}
 use Rattle.rules.specs.JoinLaws.{kin-same}
 use Rattle.rules.specs.Message.{messageNumber, messageAnswer, taken, refused}
@@ -48,8 +48,7 @@ module _ (n1 now : ℕ) (s : Sender) (packet : List ℕ) (a : Admitted n1 s (hea
 
   module _ (r : rejoins s h ≡ true) where
     open-facts : MessageWithin now (s .message)
-    unfolding rejoins
-    open-facts = message-facts now (s .message) (within (and-left (s .«open») _ (and-left _ _ r)))
+    open-facts = message-facts now (s .message) (within (rejoins-open s h r))
 
     more : 2 ≤ h .cut .tbn
     more =
@@ -101,13 +100,9 @@ module _ (n1 now : ℕ) (s : Sender) (packet : List ℕ) (a : Admitted n1 s (hea
 
     else-opens : opens ≡ true
     else-opens = ⊎-elim
-        (λ (e : h .cut .tbn ≡ 1). rw (eq-eqb (h .cut .tbn) 1 e) (or-true (eqb (heldAfter s h) 1)))
+        (λ (e : h .cut .tbn ≡ 1). rw (eq-eqb (h .cut .tbn) 1 e) (or-right (eqb (heldAfter s h) 1) true refl))
         (λ (e : h .cut .tbn ≢ 1). rw (one-held e))
         (eq-or-ne (h .cut .tbn) 1)
-      where
-        or-true : (b : Bool) → b || true ≡ true
-        or-true true = refl
-        or-true false = refl
 
   pub opens-is : opens ≡ not (rejoins s h)
   opens-is = ⊎-elim (λ (r : rejoins s h ≡ true). rw r (rejoins-adds r)) (λ (r : rejoins s h ≡ false). rw r (else-opens r)) (true-or-false (rejoins s h))

@@ -5,7 +5,7 @@ use Prim.Native.Nat.{ℕ}
 use native.Mathlib.Omega.{arith}
 use lib.Dec.{eqb}
 use borrow.Author.Tests.{eq-eqb, ne-eqb, eqb-true, not-false}
-use Rattle.octets.specs.Split.{cond-case, never-both}
+use Rattle.octets.specs.Split.{cond-case, never-both, and-left}
 use Rattle.ring.specs.Check.{isRepeat}
 use Rattle.header.specs.declared.Head.{Head}
 use Rattle.cut.specs.Possible.{possible}
@@ -44,6 +44,14 @@ admitted-facts test n1 s h e =
       same-cut = λ f. not-false (sameCut (s .message) h) (if-and (rejoins s h) (not (sameCut (s .message) h)) (r19 .0) f);
       new-piece = if-and (rejoins s h) (holds (s .message .map) (h .cut .cbn)) (r20 .0);
     }
+
+-- What belongs to the open message finds one open.
+pub rejoins-open : (s : Sender) (h : Head) → rejoins s h ≡ true → s .«open» ≡ true
+unfolding rejoins
+rejoins-open s h e =
+    let version = eqb (s .message .version .0) (h .given .version .0) in
+    let number = eqb (s .message .number .0) (h .given .number .0) in
+    and-left (s .«open») version (and-left (s .«open» && version) number e)
 
 -- ---- the admission by its number
 

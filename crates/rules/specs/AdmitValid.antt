@@ -19,7 +19,7 @@ use Rattle.map.specs.MapLaws.{bit-zero, set-below, holds-not}
 use Rattle.state.specs.declared.Last.{Last}
 use Rattle.state.specs.declared.Sender.{Sender}
 use Rattle.rules.specs.Admit.{rejoins, sameCut, verdictOf, mapAfter, fills, lastBy, closed, messageOf, opened, senderAfter}
-use Rattle.rules.specs.AdmitLaws.{Admitted}
+use Rattle.rules.specs.AdmitLaws.{Admitted, rejoins-open}
 use Rattle.state.specs.Limits.{lastWithin}
 use Rattle.state.specs.WithinLaws.{MessageWithin, message-facts, message-of, SenderWithin, Stays}
 
@@ -27,13 +27,6 @@ use Rattle.state.specs.WithinLaws.{MessageWithin, message-facts, message-of, Se
 number-last : (v n : ℕ) → isNumber n ≡ true → lastWithin (record { version = record { 0 = v }; number = record { 0 = n } }) ≡ true
 unfolding lastWithin
 number-last v n e = both (leb n M) _ (and-right (leb 1 n) (leb n M) e) (or-right (eqb v 0) (ltb 0 n) (and-left (leb 1 n) (leb n M) e))
-
-rejoins-open : (s : Sender) (h : Head) → rejoins s h ≡ true → s .«open» ≡ true
-unfolding rejoins
-rejoins-open s h e =
-    let version = eqb (s .message .version .0) (h .given .version .0) in
-    let number = eqb (s .message .number .0) (h .given .number .0) in
-    and-left (s .«open») version (and-left (s .«open» && version) number e)
 
 module _ (n1 clock : ℕ) (s : Sender) (h : Head) (a : Admitted n1 s h) where
   same-tbn : rejoins s h ≡ true → s .message .tbn ≡ h .cut .tbn

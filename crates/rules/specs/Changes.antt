@@ -35,6 +35,15 @@ use Rattle.state.specs.State.{noSender, senderAt}
 areas : (i k : ℕ) → i < k → i * area + area ≤ k * area
 areas i k h = omega arith
 
+-- No message call changes how many octets there are.
+pub length-after : (storage : List ℕ) (i : ℕ) (packet : List ℕ) → length (storageAfter storage i (headOf packet) packet) ≡ length storage
+unfolding storageAfter
+length-after storage i packet = cond-case (λ (x : List ℕ). length x ≡ length storage) (eqb (headOf packet .cut .tbn) 1) _ _ (λ _. refl) (λ _. length-laid storage _ _)
+
+pub same-room : (w : Receiver) (storage packet : List ℕ) → length (messageStorage w storage packet) ≡ length storage
+unfolding messageStorage
+same-room w storage packet = cond-case (λ (x : List ℕ). length x ≡ length storage) (eqb (messageNumber w (length storage) packet) 0) _ _ (λ _. length-after storage _ packet) (λ _. refl)
+
 -- What a PDU to which no number applies does to the storage.
 module _ (w : Receiver) (storage packet : List ℕ) (none : messageNumber w (length storage) packet ≡ 0) where
   -- The PDU's header, its sender's place in the table, and where its piece starts in the storage.
@@ -90,9 +99,6 @@ module _ (w : Receiver) (storage packet : List ℕ) (none : messageNumber w (len
     -- and "exactly" them.
     pub piece-out : (j : ℕ) → (j < start) ⊎ (start + ownLength (h .cut) ≤ j) → octet (messageStorage w storage packet) j ≡ octet storage j
     piece-out j q = rw laid-is (laid-out storage start (run headerSize (ownLength (h .cut)) packet) fits j (rw piece-length q))
-
-    pub same-room : length (messageStorage w storage packet) ≡ length storage
-    same-room = rw laid-is (length-laid storage start (run headerSize (ownLength (h .cut)) packet))
 
   -- No octet of another sender's area changes.
   pub other-area : (k j : ℕ) → k ≢ i → j < area → octet (messageStorage w storage packet) (k * area + j) ≡ octet storage (k * area + j)

@@ -27,7 +27,7 @@ use Rattle.state.specs.declared.Message.{Message}
 use Rattle.state.specs.declared.Sender.{Sender}
 use Rattle.state.specs.Limits.{clockMost}
 use Rattle.rules.specs.Admit.{rejoins, sameCut, mapAfter, fills, messageOf, senderAfter, admitted}
-use Rattle.rules.specs.AdmitLaws.{Admitted, admitted-facts}
+use Rattle.rules.specs.AdmitLaws.{Admitted, admitted-facts, rejoins-open}
 use Rattle.rules.specs.Clock.{drops, aged}
 use Rattle.rules.specs.Join.{Kin, kinOf, kinIn, numberIn, behind, Brought, OnePerNumber, Joined}
 use Rattle.rules.specs.Message.{area, storageAfter}
@@ -121,18 +121,11 @@ mapBefore s h = cond (rejoins s h) (s .message .map) 0
 abbrev packetsBefore : Sender → Head → List (List ℕ) → List (List ℕ)
 packetsBefore s h packets = cond (rejoins s h) packets []
 
-is-open : (s : Sender) (h : Head) → rejoins s h ≡ true → s .«open» ≡ true
-unfolding rejoins
-is-open s h e =
-    let v = eqb (s .message .version .0) (h .given .version .0) in
-    let q = eqb (s .message .number .0) (h .given .number .0) in
-    and-left (s .«open») v (and-left (s .«open» && v) q e)
-
 before-joins : (packets : List (List ℕ)) (v : View) (p : List ℕ) (n1 : ℕ) → Inv packets v → Admitted n1 (v .sender) (headOf p) → length p ≡ headOf p .cut .bsize
     → rejoins (v .sender) (headOf p) ≡ true → Before packets p (v .sender .message .map) (v .octets)
 before-joins packets v p n1 inv a size r =
     let m = v .sender .message in
-    let f = inv .good (is-open (v .sender) (headOf p) r) in
+    let f = inv .good (rejoins-open (v .sender) (headOf p) r) in
     let k : kinIn m ≡ kinOf p = kin-same (v .sender) p r (a .same-cut r) in
     record {
       is-cut = a .cut-possible;

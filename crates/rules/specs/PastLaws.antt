@@ -6,19 +6,17 @@ use mathlib.Core.List.{List, [], _∷_}
 use native.Mathlib.Omega.{arith}
 use lib.Dec.{eqb}
 use lib.ListN.{length}
-use Rattle.octets.specs.RunLaws.{length-laid}
 use Rattle.octets.specs.Split.{cond-case}
-use Rattle.header.specs.Head.{headOf}
 use Rattle.state.specs.declared.Receiver.{Receiver}
 use Rattle.state.specs.Limits.{valid, given}
 use Rattle.state.specs.State.{newSender, emptyReceiver, senderAt}
 use Rattle.state.specs.WithinLaws.{written-place}
 use Rattle.rules.specs.declared.answers.Started.{Started}
 use Rattle.rules.specs.declared.answers.Ticked.{Ticked}
-use Rattle.rules.specs.Changes.{message-only, alive-only}
+use Rattle.rules.specs.Changes.{same-room, message-only, alive-only}
 use Rattle.rules.specs.Clock.{clockRows, clockAnswer, ticked, notTicked}
 use Rattle.rules.specs.First.{first}
-use Rattle.rules.specs.Message.{area, messageNumber, messageStorage, storageAfter}
+use Rattle.rules.specs.Message.{area}
 use Rattle.rules.specs.Past.{World, Event, message, alive, clock, question, step, after, Start}
 use Rattle.rules.specs.Setup.{setupWithin, newSenders, setupState, setupAnswer}
 use Rattle.rules.specs.SetupLaws.{setup-count}
@@ -54,14 +52,6 @@ start-sender w s i less = by (setupWithin (s .given)) refl
         absurd (omega (arith, less, ap (λ (x : Receiver). x .count) is))
 
 -- ---- what a call keeps
-
-length-after : (storage : List ℕ) (i : ℕ) (packet : List ℕ) → length (storageAfter storage i (headOf packet) packet) ≡ length storage
-unfolding storageAfter
-length-after storage i packet = cond-case (λ (x : List ℕ). length x ≡ length storage) (eqb (headOf packet .cut .tbn) 1) _ _ (λ _. refl) (λ _. length-laid storage _ _)
-
-pub same-room : (w : Receiver) (storage packet : List ℕ) → length (messageStorage w storage packet) ≡ length storage
-unfolding messageStorage
-same-room w storage packet = cond-case (λ (x : List ℕ). length x ≡ length storage) (eqb (messageNumber w (length storage) packet) 0) _ _ (λ _. length-after storage _ packet) (λ _. refl)
 
 clock-count : (w : Receiver) (now : ℕ) → clockAnswer w now .state .count ≡ w .count
 unfolding clockAnswer ticked notTicked
@@ -105,6 +95,6 @@ unfolding after
 after-count w [] = refl
 after-count w (e ∷ es) = after-count (step w e) es ∙ same-count w e
 
--- "No past ever meets 9", and none meets 11.
+-- So no past meets 9 or 11.
 pub past-sound : (w : World) → Start w → (es : List Event) → Sound (after w es)
 past-sound w s es = after-sound w es (start-sound w s)

@@ -11,7 +11,7 @@ use lib.ListN.{length, drop, length-drop}
 use lib.Seq.{take-all}
 use borrow.Author.Tests.{eqb-true, eq-eqb, ne-eqb, le-leb, not-true, not-false}
 use Rattle.octets.specs.Run.{run}
-use Rattle.octets.specs.RunLaws.{length-laid, length-run, run-run}
+use Rattle.octets.specs.RunLaws.{length-run, run-run}
 use Rattle.octets.specs.Split.{true-or-false, never-both, cond-case, both, and-left, and-right, eq-or-ne}
 use Rattle.ring.specs.declared.Verdict.{Verdict}
 use Rattle.header.specs.declared.Head.{Head}
@@ -31,6 +31,7 @@ use Rattle.rules.specs.Accepted.{isAccepted, hasOpened, acceptedWith, ac
 use Rattle.rules.specs.AcceptedLaws.{accepted-is, opens-is}
 use Rattle.rules.specs.Admit.{rejoins, fills, admitted}
 use Rattle.rules.specs.AdmitLaws.{admitted-facts}
+use Rattle.rules.specs.Changes.{length-after}
 use Rattle.rules.specs.Join.{Joined, behind}
 use Rattle.rules.specs.JoinLaws.{Inv, next-inv, tick-inv, partView, delivered-joined}
 use Rattle.rules.specs.Message.{area, lengthWrong, headWithin, messageNumber, messageAnswer, messageStorage, storageAfter, liesAt, taken, refused}
@@ -109,10 +110,6 @@ module _ (w : World) (sound : Sound w) (p : List ℕ) (vd : Verdict) (gave : mes
   unfolding run
   behind-all = sym (take-all (ownLength (h .cut)) (drop headerSize p) (simp length-drop (omega (arith, passed .size))))
 
-  stored-long : length (storageAfter (w .storage) i h p) ≡ length (w .storage)
-  unfolding storageAfter
-  stored-long = cond-case (λ (x : List ℕ). length x ≡ length (w .storage)) (eqb (h .cut .tbn) 1) _ _ (λ _. refl) (λ _. length-laid (w .storage) _ _)
-
   part-stored : storedPart (storageAfter (w .storage) i h p) (i * area) (messageLength (h .cut)) ≡ run 0 (messageLength (h .cut)) (storageAfter (view w i .octets) 0 h p)
   unfolding storedPart view
   part-stored =
@@ -120,9 +117,9 @@ module _ (w : World) (sound : Sound w) (p : List ℕ) (vd : Verdict) (gave : mes
       let st = storageAfter (w .storage) i h p in
       let big : n ≤ area = possible-facts (h .cut) cut-possible .big in
       let z : i * area + 0 ≡ i * area = omega arith in
-      let fits : i * area + n ≤ length st = omega (arith, stored-long, there) in
+      let fits : i * area + n ≤ length st = omega (arith, length-after (w .storage) i p, there) in
       rw (le-leb (i * area + n) (length st) fits, ← own-octets w sound i (passed .registered) p cut-possible (passed .size))
-      (sym (run-run (i * area) area 0 n st (omega arith) (omega (arith, stored-long, there)) ∙ ap (λ (x : ℕ). run x n st) z))
+      (sym (run-run (i * area) area 0 n st (omega arith) (omega (arith, length-after (w .storage) i p, there)) ∙ ap (λ (x : ℕ). run x n st) z))
 
   pub part-is : partOf (answer .place) p (messageStorage (w .state) (w .storage) p) ≡ partView (view w i) p
   unfolding partView
