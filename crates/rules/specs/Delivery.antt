@@ -61,13 +61,14 @@ pub record PieceOf (m : Sent) (c : ℕ) (packet : List ℕ) : Type 0 where
   pub cut : headOf packet .cut ≡ cutFor (length (m .octets)) (m .u) c
   pub octets : drop headerSize packet ≡ piece (m .octets) (m .u) c
 
--- Piece c came with one of these calls.
+-- Piece c comes with this call,
 abbrev pub Brings : Sent → ℕ → Event → Type 0
 Brings m c (message packet) = PieceOf m c packet
 Brings m c (alive packet) = ⊥
 Brings m c (clock now) = ⊥
 Brings m c question = ⊥
 
+-- came with one of these.
 abbrev pub Came : Sent → ℕ → List Event → Type 0
 Came m c [] = ⊥
 Came m c (e ∷ es) = Brings m c e ⊎ Came m c es

@@ -118,7 +118,7 @@ module _ (m : Sent) (k : Cuttable m) where
 abbrev pub mapOf : Sent → Sender → ℕ
 mapOf m s = cond (isOpen m s) (s .message .map) 0
 
--- No larger number of its version is open.
+-- A larger number of its version is open.
 abbrev pub larger : Sent → Sender → Bool
 larger m s = s .«open» && eqb (s .message .version .0) (m .version) && newer (s .message .number .0) (m .number)
 

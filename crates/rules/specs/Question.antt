@@ -28,7 +28,7 @@ unfoldable pub questionAnswer : Receiver → Missing
 questionAnswer w =
     cond (eqb (first (questionRows w)) 0) (missingOf w (firstOpen w)) (Refused (first (questionRows w)))
 
--- 01's number and values for each case.
+-- 01's number for each case; the values are those that the case holds.
 abbrev pub missingNumber : Missing → ℕ
 missingNumber (Refused k) = k
 missingNumber NoneOpen = 0

@@ -8,7 +8,7 @@ use state::Address;
 use state::Receiver;
 use state::Sender;
 
-// What became of a packet or a call.
+// What became of a packet.
 pub enum Outcome {
     // with 01's number, 9 or more
     Refused(u8),
@@ -46,6 +46,7 @@ pub struct Admission {
     pub sender: Sender,
 }
 
+// What the message call answers.
 pub struct Answer {
     pub outcome: Outcome,
     // pieces then held for the PDU's sender
