@@ -11,7 +11,7 @@ use lib.Seq.{getD-set-other}
 use borrow.Author.Tests.{eq-eqb, ne-eqb}
 use Rattle.octets.specs.Number.{octet}
 use Rattle.octets.specs.Run.{run, laid}
-use Rattle.octets.specs.RunLaws.{laid-in, laid-out, length-laid, length-run, octet-run}
+use Rattle.octets.specs.RunLaws.{laid-in, laid-out, length-run, octet-run}
 use Rattle.octets.specs.Split.{lt-or-le, eq-or-ne, cond-case}
 use Rattle.header.specs.declared.Head.{Head}
 use Rattle.header.specs.Head.{headOf}
@@ -34,15 +34,6 @@ use Rattle.state.specs.State.{noSender, senderAt}
 -- Areas lie one behind the other.
 areas : (i k : ℕ) → i < k → i * area + area ≤ k * area
 areas i k h = omega arith
-
--- No message call changes how many octets there are.
-pub length-after : (storage : List ℕ) (i : ℕ) (packet : List ℕ) → length (storageAfter storage i (headOf packet) packet) ≡ length storage
-unfolding storageAfter
-length-after storage i packet = cond-case (λ (x : List ℕ). length x ≡ length storage) (eqb (headOf packet .cut .tbn) 1) _ _ (λ _. refl) (λ _. length-laid storage _ _)
-
-pub same-room : (w : Receiver) (storage packet : List ℕ) → length (messageStorage w storage packet) ≡ length storage
-unfolding messageStorage
-same-room w storage packet = cond-case (λ (x : List ℕ). length x ≡ length storage) (eqb (messageNumber w (length storage) packet) 0) _ _ (λ _. length-after storage _ packet) (λ _. refl)
 
 -- What a PDU to which no number applies does to the storage.
 module _ (w : Receiver) (storage packet : List ℕ) (none : messageNumber w (length storage) packet ≡ 0) where

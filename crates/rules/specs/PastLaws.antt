@@ -6,17 +6,19 @@ use mathlib.Core.List.{List, [], _∷_}
 use native.Mathlib.Omega.{arith}
 use lib.Dec.{eqb}
 use lib.ListN.{length}
+use Rattle.octets.specs.RunLaws.{length-laid}
 use Rattle.octets.specs.Split.{cond-case}
+use Rattle.header.specs.Head.{headOf}
 use Rattle.state.specs.declared.Receiver.{Receiver}
 use Rattle.state.specs.Limits.{valid, given}
 use Rattle.state.specs.State.{newSender, emptyReceiver, senderAt}
 use Rattle.state.specs.WithinLaws.{written-place}
 use Rattle.rules.specs.declared.answers.Started.{Started}
 use Rattle.rules.specs.declared.answers.Ticked.{Ticked}
-use Rattle.rules.specs.Changes.{same-room, message-only, alive-only}
+use Rattle.rules.specs.Changes.{message-only, alive-only}
 use Rattle.rules.specs.Clock.{clockRows, clockAnswer, ticked, notTicked}
 use Rattle.rules.specs.First.{first}
-use Rattle.rules.specs.Message.{area}
+use Rattle.rules.specs.Message.{area, messageNumber, messageStorage, storageAfter}
 use Rattle.rules.specs.Past.{World, Event, message, alive, clock, question, step, after, Start}
 use Rattle.rules.specs.Setup.{setupWithin, newSenders, setupState, setupAnswer}
 use Rattle.rules.specs.SetupLaws.{setup-count}
@@ -52,6 +54,15 @@ start-sender w s i less = by (setupWithin (s .given)) refl
         absurd (omega (arith, less, ap (λ (x : Receiver). x .count) is))
 
 -- ---- what a call keeps
+
+-- No message call changes how many octets there are.
+pub length-after : (storage : List ℕ) (i : ℕ) (packet : List ℕ) → length (storageAfter storage i (headOf packet) packet) ≡ length storage
+unfolding storageAfter
+length-after storage i packet = cond-case (λ (x : List ℕ). length x ≡ length storage) (eqb (headOf packet .cut .tbn) 1) _ _ (λ _. refl) (λ _. length-laid storage _ _)
+
+pub same-room : (w : Receiver) (storage packet : List ℕ) → length (messageStorage w storage packet) ≡ length storage
+unfolding messageStorage
+same-room w storage packet = cond-case (λ (x : List ℕ). length x ≡ length storage) (eqb (messageNumber w (length storage) packet) 0) _ _ (λ _. length-after storage _ packet) (λ _. refl)
 
 clock-count : (w : Receiver) (now : ℕ) → clockAnswer w now .state .count ≡ w .count
 unfolding clockAnswer ticked notTicked

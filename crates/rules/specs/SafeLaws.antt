@@ -31,14 +31,13 @@ use Rattle.rules.specs.Accepted.{isAccepted, hasOpened, acceptedWith, ac
 use Rattle.rules.specs.AcceptedLaws.{accepted-is, opens-is}
 use Rattle.rules.specs.Admit.{rejoins, fills, admitted}
 use Rattle.rules.specs.AdmitLaws.{admitted-facts}
-use Rattle.rules.specs.Changes.{length-after}
 use Rattle.rules.specs.Join.{Joined, behind}
 use Rattle.rules.specs.JoinLaws.{Inv, next-inv, tick-inv, partView, delivered-joined}
 use Rattle.rules.specs.Message.{area, lengthWrong, headWithin, messageNumber, messageAnswer, messageStorage, storageAfter, liesAt, taken, refused}
 use Rattle.rules.specs.MessageLaws.{Passed, taken-facts, or-false}
 use Rattle.rules.specs.Part.{partOf, storedPart}
 use Rattle.rules.specs.Past.{World, Event, message, alive, clock, question, step, after, answerTo, partTo, said, answers, Start}
-use Rattle.rules.specs.PastLaws.{Sound, start-sound, start-sender, past-sound, after-count}
+use Rattle.rules.specs.PastLaws.{Sound, length-after, start-sound, start-sender, past-sound, after-count}
 use Rattle.rules.specs.QuestionLaws.{first-holds}
 use Rattle.rules.specs.View.{Settings, settingsFrom, view, inOrder, isFrom, seen, numberOf, stepView}
 use Rattle.rules.specs.ViewLaws.{out-of-order, number-at, own-octets, fills-joining, Registered, registered-step, registered-view, registered-number, registered-place, registered-after}
