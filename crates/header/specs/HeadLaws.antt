@@ -1,73 +1,48 @@
 -- Laws of the header: what was written reads back, and is fixed where Table 7 fixes it. Assumes nothing.
 use mathlib.Core.Path.{_≡_, refl, sym, ap, _∙_}
 use mathlib.Core.Bool.{true}
-use mathlib.Core.List.{List, [], _∷_, _++_, append-assoc}
+use mathlib.Core.List.{List, [], _∷_, _++_, append-assoc, append-nil}
 use Prim.Native.Nat.{ℕ, _+_, _^_, _≤_, _<_}
-use native.Mathlib.Nat.{zero-add}
+use native.Mathlib.Nat.{zero-add, le-refl}
 use native.Mathlib.Omega.{arith}
-use lib.ListN.{length, drop, replicate, length-replicate, getD-replicate, length-append, length-drop}
+use lib.ListN.{length, drop, replicate, getD-replicate, length-append, length-drop}
 use lib.Seq.{take-at, drop-drop, drop-append-add}
 use borrow.Author.Tests.{le-leb}
-use Rattle.octets.specs.Number.{octet}
 use Rattle.octets.specs.Run.{laid}
-use Rattle.octets.specs.RunLaws.{laid-in, laid-drop, laid-fits, length-laid}
+use Rattle.octets.specs.RunLaws.{laid-fits}
 use Rattle.octets.specs.NumberLaws.{Octets, number-bound}
 use Rattle.header.specs.declared.Head.{Head}
-use Rattle.header.specs.Layout.{Row}
-use Rattle.header.specs.LayoutLaws.{Lit, done, lit, unlit, In, nth-in, fill, fill-append, fill-layout, layout-row, length-layout}
-use Rattle.header.specs.Places.{Field, place, headerSize, row, rows, places-apart, places-end}
+use Rattle.header.specs.Layout.{Row, rowOf, rowsOf, layout}
+use Rattle.header.specs.LayoutLaws.{Lit, done, lit, unlit, In, nth-in, fill, fill-layout, layout-row, length-layout}
+use Rattle.header.specs.Places.{Field, place, headerSize, rows, places-apart, places-end}
 use Rattle.header.specs.Places.Field.{hType, ml, domain, dataField, node, da, vSeq, seq, mCtl, inqId, tcd, ver, gtid, mode, pver, pri, cbn, tbn, bsize, fui}
 use Rattle.header.specs.Head.{valueAt, value, header, headOf, headed, isFixed}
 
--- The rows that are not fixed to 0, which is what is left to write once 64 octets were cleared.
-abbrev pub addressRows : Head → List Row
-addressRows h =
-    row hType (value h hType) ∷ row ml (value h ml) ∷ row dataField (value h dataField) ∷ row node (value h node)
-    ∷ row da (value h da) ∷ []
-
-abbrev pub numberRows : Head → List Row
-numberRows h =
-    row vSeq (value h vSeq) ∷ row seq (value h seq) ∷ row mCtl (value h mCtl) ∷ row tcd (value h tcd)
-    ∷ row mode (value h mode) ∷ []
-
-abbrev pub pieceRows : Head → List Row
-pieceRows h =
-    row pver (value h pver) ∷ row pri (value h pri) ∷ row cbn (value h cbn) ∷ row tbn (value h tbn)
-    ∷ row bsize (value h bsize) ∷ []
-
-abbrev litRows : Head → List Row
-litRows h = addressRows h ++ (numberRows h ++ pieceRows h)
+-- The rows that are not fixed to 0, which is what is left to lay over 64 octets of 0.
+abbrev pub litRows : Head → List Row
+litRows h = rowsOf place (value h) (hType ∷ ml ∷ dataField ∷ node ∷ da ∷ vSeq ∷ seq ∷ mCtl ∷ tcd ∷ mode ∷ pver ∷ pri ∷ cbn ∷ tbn ∷ bsize ∷ [])
 
 rows-lit : (h : Head) → Lit (rows (value h)) (litRows h)
 rows-lit h =
     lit (lit (unlit refl (lit (lit (lit (lit (lit (lit (unlit refl (lit (unlit refl (unlit refl
     (lit (lit (lit (lit (lit (lit (unlit refl done)))))))))))))))))))
 
--- 64 octets cleared and the rows filled in: the header is written, and all behind it stays.
-pub cleared-filled : (s : List ℕ) (h : Head) → headerSize ≤ length s
-    → fill (litRows h) (laid s 0 (replicate headerSize 0)) ≡ headed s h
-unfolding headed header
-cleared-filled s h room =
-    let zeros : List ℕ = replicate headerSize 0 in
-    let wide : length zeros ≡ headerSize = length-replicate {A = ℕ} headerSize 0 in
-    let fits : 0 + length zeros ≤ length s = omega arith in
-    let clear : (i : ℕ) → i < headerSize → octet (laid s 0 zeros) i ≡ 0
-    = λ i q. ap (octet (laid s 0 zeros)) (sym (zero-add i)) ∙ laid-in s 0 zeros fits i (omega arith) ∙ getD-replicate {A = ℕ} headerSize i 0 0 q in
-    let behind : drop headerSize (laid s 0 zeros) ≡ drop headerSize s = laid-drop s 0 zeros fits in
-    fill-layout headerSize (rows (value h)) (litRows h) (laid s 0 zeros) (rows-lit h) (places-apart (value h)) (places-end (value h))
-    (rw (length-laid s 0 zeros) room) clear
-    ∙ rw (behind, le-leb headerSize (length s) room)
-
-pub written : (s : List ℕ) (h : Head) {a b d e : List ℕ} → headerSize ≤ length s → a ≡ laid s 0 (replicate headerSize 0)
-    → b ≡ fill (addressRows h) a → d ≡ fill (numberRows h) b → e ≡ fill (pieceRows h) d → e ≡ headed s h
-written s h {a} room w x y z =
-    z ∙ ap (fill (pieceRows h)) (y ∙ ap (fill (numberRows h)) x)
-    ∙ sym (fill-append (addressRows h) (numberRows h ++ pieceRows h) a ∙ fill-append (numberRows h) (pieceRows h) (fill (addressRows h) a))
-    ∙ ap (fill (litRows h)) w ∙ cleared-filled s h room
+-- Laid over 64 octets of 0, they make the header.
+pub zeros-filled : (h : Head) → fill (litRows h) (replicate headerSize 0) ≡ header h
+unfolding header
+zeros-filled h =
+    fill-layout headerSize (rows (value h)) (litRows h) (replicate headerSize 0) (rows-lit h) (places-apart (value h)) (places-end (value h))
+    (le-refl headerSize) (λ i q. getD-replicate {A = ℕ} headerSize i 0 0 q)
+    ∙ append-nil (layout headerSize (rows (value h)))
 
 pub length-header : (h : Head) → length (header h) ≡ headerSize
 unfolding header
 length-header h = length-layout headerSize (rows (value h))
+
+-- Laid down at the front, the header is written, all behind it stays, and a buffer that has no room for it too.
+pub laid-headed : (s : List ℕ) (h : Head) → laid s 0 (header h) ≡ headed s h
+unfolding laid headed
+laid-headed s h = rw (length-header h)
 
 pub headed-fits : (s : List ℕ) (h : Head) → headerSize ≤ length s → headed s h ≡ header h ++ drop headerSize s
 unfolding headed
@@ -76,7 +51,7 @@ headed-fits s h room = rw (le-leb headerSize (length s) room)
 -- ---- what was written reads back
 
 -- Every field has its row in the table.
-in-table : (v : Field → ℕ) (f : Field) → In (row f (v f)) (rows v)
+in-table : (v : Field → ℕ) (f : Field) → In (rowOf place v f) (rows v)
 in-table v hType = nth-in 0 (rows v) (omega arith)
 in-table v ml = nth-in 1 (rows v) (omega arith)
 in-table v domain = nth-in 2 (rows v) (omega arith)
@@ -102,7 +77,7 @@ in-table v fui = nth-in 19 (rows v) (omega arith)
 pub field-back : (h : Head) (t : List ℕ) (f : Field) → value h f < 256 ^ place f .1 → valueAt (header h ++ t) f ≡ value h f
 unfolding header
 field-back h t f fits =
-    layout-row headerSize (row f (value h f)) (rows (value h)) t (in-table (value h) f) (places-apart (value h)) (places-end (value h)) fits
+    layout-row headerSize (rowOf place (value h) f) (rows (value h)) t (in-table (value h) f) (places-apart (value h)) (places-end (value h)) fits
 
 -- Each number fits into its field's octets.
 pub record Fits (h : Head) : Type 0 where

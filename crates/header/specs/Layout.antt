@@ -11,6 +11,14 @@ pub record Row : Type 0 where
   pub size : ℕ
   pub value : ℕ
 
+-- The row of a field, by a table that says where each field starts and its size, and by the number of each.
+abbrev pub rowOf : {F : Type 0} → (F → ℕ × ℕ) → (F → ℕ) → F → Row
+rowOf place v f = record { start = place f .0; size = place f .1; value = v f }
+
+abbrev pub rowsOf : {F : Type 0} → (F → ℕ × ℕ) → (F → ℕ) → List F → List Row
+rowsOf place v [] = []
+rowsOf place v (f ∷ fs) = rowOf place v f ∷ rowsOf place v fs
+
 abbrev pub end : Row → ℕ
 end r = r .start + r .size
 

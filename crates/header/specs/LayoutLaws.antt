@@ -143,19 +143,6 @@ fill-cons : (r : Row) (rs : List Row) (s : List ℕ) → fill (r ∷ rs) s ≡ f
 unfolding fill
 fill-cons r rs s = refl
 
--- One row written, and then the others.
-pub fill-step : (s : List ℕ) {l m : List ℕ} (r : Row) (rs : List Row) → l ≡ laid s (r .start) (octets (r .size) (r .value)) → m ≡ fill rs l → m ≡ fill (r ∷ rs) s
-fill-step s r rs e f = f ∙ ap (fill rs) e ∙ sym (fill-cons r rs s)
-
-pub fill-last : (l : List ℕ) → l ≡ fill [] l
-unfolding fill
-fill-last l = refl
-
-pub fill-append : (ps qs : List Row) (s : List ℕ) → fill (ps ++ qs) s ≡ fill qs (fill ps s)
-unfolding fill
-fill-append [] qs s = refl
-fill-append (p ∷ ps) qs s = fill-append ps qs (laid s (p .start) (octets (p .size) (p .value)))
-
 pub length-fill : (rs : List Row) (s : List ℕ) → length (fill rs s) ≡ length s
 unfolding fill
 length-fill [] s = refl

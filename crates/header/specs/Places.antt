@@ -4,7 +4,7 @@ use mathlib.Core.Path.{_≡_, refl}
 use mathlib.Core.Bool.{true}
 use mathlib.Core.List.{List, [], _∷_}
 use Prim.Native.Nat.{ℕ}
-use Rattle.header.specs.Layout.{Row, apartFrom, apart, endsBy, held, covers}
+use Rattle.header.specs.Layout.{Row, rowsOf, apartFrom, apart, endsBy, held, covers}
 
 -- The fields of Table 7, SA in its three parts: domain, data field, node.
 pub data Field : Type 0 where
@@ -37,16 +37,9 @@ place fui = (60, 4)
 abbrev pub headerSize : ℕ
 headerSize = 64
 
-abbrev pub row : Field → ℕ → Row
-row f x = record { start = place f .0; size = place f .1; value = x }
-
 -- The whole table, with a number for each field.
 abbrev pub rows : (Field → ℕ) → List Row
-rows v =
-    row hType (v hType) ∷ row ml (v ml) ∷ row domain (v domain) ∷ row dataField (v dataField) ∷ row node (v node)
-    ∷ row da (v da) ∷ row vSeq (v vSeq) ∷ row seq (v seq) ∷ row mCtl (v mCtl) ∷ row inqId (v inqId)
-    ∷ row tcd (v tcd) ∷ row ver (v ver) ∷ row gtid (v gtid) ∷ row mode (v mode) ∷ row pver (v pver)
-    ∷ row pri (v pri) ∷ row cbn (v cbn) ∷ row tbn (v tbn) ∷ row bsize (v bsize) ∷ row fui (v fui) ∷ []
+rows v = rowsOf place v (hType ∷ ml ∷ domain ∷ dataField ∷ node ∷ da ∷ vSeq ∷ seq ∷ mCtl ∷ inqId ∷ tcd ∷ ver ∷ gtid ∷ mode ∷ pver ∷ pri ∷ cbn ∷ tbn ∷ bsize ∷ fui ∷ [])
 
 pub places-apart : (v : Field → ℕ) → apart (rows v) ≡ true
 unfolding apart apartFrom

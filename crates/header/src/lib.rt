@@ -4,9 +4,9 @@
 // as it is. Which values are admitted is said in `codes`; reading and writing take any.
 ghost use mathlib.Core.Path.{_≡_};
 ghost use lib.Dec.{eqb};
-ghost use Rattle.header.specs.Head.{valueAt, givenOf, cutOf, headOf, headed, isFixed};
-ghost use Rattle.header.specs.HeadLaws.{addressRows, numberRows, pieceRows};
-ghost use Rattle.header.specs.LayoutLaws.{fill};
+ghost use Rattle.octets.specs.Number.{octets};
+ghost use Rattle.octets.specs.Run.{laid};
+ghost use Rattle.header.specs.Head.{valueAt, givenOf, cutOf, headOf, header, headed, isFixed};
 ghost use Rattle.header.specs.Places.Field.{inqId};
 
 pub mod places;
@@ -118,42 +118,50 @@ fn no_inquiry(packet: &[u8]) -> bool
 pub fn write_head(buffer: &mut [u8], h: Head)
     ensures { λ _. ⌜ now (buffer .exit) ≡ headed (now (buffer .entry)) h ⌝ }
 {
-    if SIZE <= buffer.len() {
-        let zeros = [0u8; 64];
-        lay(buffer, 0, &zeros);
-        fill_addresses(buffer, h);
-        fill_numbers(buffer, h);
-        fill_piece(buffer, h);
-    }
+    let s = octets_of(h);
+    lay(buffer, 0, &s);
 }
 
-// The fields that are not fixed to 0 are filled in, in Table 7's order.
-fn fill_addresses(buffer: &mut [u8], h: Head)
-    ensures { λ _. ⌜ now (buffer .exit) ≡ fill (addressRows h) (now (buffer .entry)) ⌝ }
+// The 64 octets: the fields that are not fixed to 0 are filled in, in Table 7's order.
+fn octets_of(h: Head) -> [u8; SIZE]
+    ensures { λ r. ⌜ r ≡ header h ⌝ }
 {
-    write4(buffer, places::H_TYPE, NUXM);
-    write4(buffer, places::ML, h.cut.ml);
-    write1(buffer, places::DATA_FIELD, h.given.field.0);
-    write2(buffer, places::NODE, h.given.node.0);
-    write4(buffer, places::DA, h.given.da);
+    let s = [0u8; SIZE];
+    let s = with4(s, places::H_TYPE, NUXM);
+    let s = with4(s, places::ML, h.cut.ml);
+    let s = with1(s, places::DATA_FIELD, h.given.field.0);
+    let s = with2(s, places::NODE, h.given.node.0);
+    let s = with4(s, places::DA, h.given.da);
+    let s = with4(s, places::V_SEQ, h.given.version.0);
+    let s = with4(s, places::SEQ, h.given.number.0);
+    let s = with4(s, places::M_CTL, h.given.mctl);
+    let s = with2(s, places::TCD, h.given.tcd);
+    let s = with2(s, places::MODE, h.given.mode);
+    let s = with1(s, places::PVER, 1);
+    let s = with1(s, places::PRI, h.given.pri);
+    let s = with1(s, places::CBN, h.cut.cbn);
+    let s = with1(s, places::TBN, h.cut.tbn);
+    with2(s, places::BSIZE, h.cut.bsize)
 }
 
-fn fill_numbers(buffer: &mut [u8], h: Head)
-    ensures { λ _. ⌜ now (buffer .exit) ≡ fill (numberRows h) (now (buffer .entry)) ⌝ }
+// A number laid down at a place. The octets go by value, so that no borrow is followed from field to field.
+fn with1(mut s: [u8; SIZE], at: usize, x: u8) -> [u8; SIZE]
+    ensures { λ r. ⌜ r ≡ laid s at (octets 1 x) ⌝ }
 {
-    write4(buffer, places::V_SEQ, h.given.version.0);
-    write4(buffer, places::SEQ, h.given.number.0);
-    write4(buffer, places::M_CTL, h.given.mctl);
-    write2(buffer, places::TCD, h.given.tcd);
-    write2(buffer, places::MODE, h.given.mode);
+    write1(&mut s, at, x);
+    s
 }
 
-fn fill_piece(buffer: &mut [u8], h: Head)
-    ensures { λ _. ⌜ now (buffer .exit) ≡ fill (pieceRows h) (now (buffer .entry)) ⌝ }
+fn with2(mut s: [u8; SIZE], at: usize, x: u16) -> [u8; SIZE]
+    ensures { λ r. ⌜ r ≡ laid s at (octets 2 x) ⌝ }
 {
-    write1(buffer, places::PVER, 1);
-    write1(buffer, places::PRI, h.given.pri);
-    write1(buffer, places::CBN, h.cut.cbn);
-    write1(buffer, places::TBN, h.cut.tbn);
-    write2(buffer, places::BSIZE, h.cut.bsize);
+    write2(&mut s, at, x);
+    s
+}
+
+fn with4(mut s: [u8; SIZE], at: usize, x: u32) -> [u8; SIZE]
+    ensures { λ r. ⌜ r ≡ laid s at (octets 4 x) ⌝ }
+{
+    write4(&mut s, at, x);
+    s
 }

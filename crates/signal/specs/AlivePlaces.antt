@@ -5,7 +5,7 @@ use mathlib.Core.Path.{_≡_, refl}
 use mathlib.Core.Bool.{true}
 use mathlib.Core.List.{List, [], _∷_, _++_}
 use Prim.Native.Nat.{ℕ}
-use Rattle.header.specs.Layout.{Row, apartFrom, apart, endsBy, held, covers}
+use Rattle.header.specs.Layout.{Row, rowsOf, apartFrom, apart, endsBy, held, covers}
 use Rattle.header.specs.Places.{Field, rows}
 
 -- The fields of Table 8, al_ipaddr in its two parts.
@@ -32,16 +32,9 @@ alivePlace reserved = (121, 7)
 abbrev pub aliveSize : ℕ
 aliveSize = 128
 
-abbrev pub aliveRow : AliveField → ℕ → Row
-aliveRow f x = record { start = alivePlace f .0; size = alivePlace f .1; value = x }
-
 -- The alive header's part of the table, with a number for each field,
 abbrev pub bodyRows : (AliveField → ℕ) → List Row
-bodyRows v =
-    aliveRow ndName (v ndName) ∷ aliveRow osName (v osName) ∷ aliveRow alTmOut (v alTmOut) ∷ aliveRow msgSerno (v msgSerno)
-    ∷ aliveRow alMode (v alMode) ∷ aliveRow alProtocol (v alProtocol) ∷ aliveRow alFu1 (v alFu1) ∷ aliveRow chgTime (v chgTime)
-    ∷ aliveRow ipaddr0 (v ipaddr0) ∷ aliveRow ipaddr1 (v ipaddr1) ∷ aliveRow alVer (v alVer) ∷ aliveRow alFu2 (v alFu2)
-    ∷ aliveRow reserved (v reserved) ∷ []
+bodyRows v = rowsOf alivePlace v (ndName ∷ osName ∷ alTmOut ∷ msgSerno ∷ alMode ∷ alProtocol ∷ alFu1 ∷ chgTime ∷ ipaddr0 ∷ ipaddr1 ∷ alVer ∷ alFu2 ∷ reserved ∷ [])
 
 -- and behind the ADP header's.
 abbrev pub headBodyRows : (Field → ℕ) → (AliveField → ℕ) → List Row
