@@ -1,15 +1,15 @@
 -- Laws of numbers in octets, each once over the width. Assumes nothing.
 use mathlib.Core.Path.{_≡_, refl, sym, ap, ap₂, _∙_}
 use mathlib.Core.Logic.{_⊎_, inl, inr, ⊎-elim}
-use mathlib.Core.List.{List, [], _∷_, _++_}
-use Prim.Native.Nat.{ℕ, zero, suc, _+_, _*_, _/_, _%_, _^_, _≤_, _<_}
+use mathlib.Core.List.{List, [], _∷_, _++_, append-assoc}
+use Prim.Native.Nat.{ℕ, zero, suc, _+_, _-_, _*_, _/_, _%_, _^_, _≤_, _<_}
 use native.Mathlib.Nat.{add-zero, add-suc, zero-add, mul-assoc, pow-suc, add-mul, mod-one, mod-eq-of-lt, mul-le-mul-right}
 use native.Mathlib.Omega.{arith}
 use mathlib.Core.Bool.{_&&_}
 use lib.Arith.{mod-mul, digits-lt}
 use lib.Dec.{eqb}
-use lib.ListN.{length, drop, length-append, List·getD-append}
-use lib.Seq.{getD-drop, getD-at}
+use lib.ListN.{length, take, drop, set, length-append, drop-of-length-le, List·getD-append}
+use lib.Seq.{getD-drop, getD-at, drop-append-le, drop-at, set-split, length-take-le}
 use borrow.Author.Tests.{eqb-true, eq-eqb}
 use Rattle.octets.specs.Number.{octet, number, octets}
 use Rattle.octets.specs.Run.{laid}
@@ -68,6 +68,27 @@ pub length-octets : (w x : ℕ) → length (octets w x) ≡ w
 unfolding octets
 length-octets zero x = refl
 length-octets (suc w) x = rw (length-append (octets w (x / 256)) (x % 256 ∷ []), length-octets w (x / 256)) (omega arith)
+
+octets-last : (k w x : ℕ) → drop k (octets (k + w) x) ≡ octets w x
+unfolding octets
+octets-last k zero x = rw (add-zero k) (drop-of-length-le (octets k x) {i = k} (omega (arith, length-octets k x)))
+octets-last k (suc w) x =
+    rw (add-suc k w)
+    (drop-append-le k (octets (k + w) (x / 256)) (x % 256 ∷ []) (omega (arith, length-octets (k + w) (x / 256)))
+    ∙ ap (λ (l : List ℕ). l ++ (x % 256 ∷ [])) (octets-last k w (x / 256)))
+
+-- The w low octets of a number are the last of n.
+pub octets-low : (n w x : ℕ) → w ≤ n → drop (n - w) (octets n x) ≡ octets w x
+octets-low n w x h =
+    let e : n ≡ n - w + w = omega arith in
+    ap (λ (m : ℕ). drop (n - w) (octets m x)) e ∙ octets-last (n - w) w x
+
+-- The low octet is taken off a number and laid down behind the i octets that are left: all of them together stay.
+pub octets-off : (i x : ℕ) (l all : List ℕ) → i < length l → octets (suc i) x ++ drop (suc i) l ≡ all → octets i (x / 256) ++ drop i (set l i (x % 256)) ≡ all
+unfolding octets
+octets-off i x l all h e =
+    rw (set-split l i (x % 256) h, drop-at (take i l) (x % 256 ∷ drop (suc i) l) i (length-take-le i l (omega arith)))
+    (sym (append-assoc (octets i (x / 256)) (x % 256 ∷ []) (drop (suc i) l)) ∙ e)
 
 -- The octets of a number make it again, as far as they reach.
 pub number-octets : (w x : ℕ) → number w (octets w x) 0 ≡ x % 256 ^ w

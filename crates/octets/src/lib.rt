@@ -20,21 +20,21 @@ pub fn read2(s: &[u8], at: usize) -> u16
     ensures { λ r. ⌜ r ≡ number 2 (now (s .entry)) at ⌝ }
 {
     let t = from(s, at);
-    wide1(read1(t, 0)) * 256 + wide1(read1(t, 1))
+    read1(t, 0) as u16 * 256 + read1(t, 1) as u16
 }
 
 pub fn read4(s: &[u8], at: usize) -> u32
     ensures { λ r. ⌜ r ≡ number 4 (now (s .entry)) at ⌝ }
 {
     let t = from(s, at);
-    wide2(read2(t, 0)) * 65_536 + wide2(read2(t, 2))
+    read2(t, 0) as u32 * 65_536 + read2(t, 2) as u32
 }
 
 pub fn read8(s: &[u8], at: usize) -> u64
     ensures { λ r. ⌜ r ≡ number 8 (now (s .entry)) at ⌝ }
 {
     let t = from(s, at);
-    wide4(read4(t, 0)) * 4_294_967_296 + wide4(read4(t, 4))
+    read4(t, 0) as u64 * 4_294_967_296 + read4(t, 4) as u64
 }
 
 // The part of a slice from a place on, empty past its end, so that no place is counted past the largest usize.
@@ -46,24 +46,6 @@ pub fn from(s: &[u8], at: usize) -> &[u8]
     } else {
         &s[s.len()..]
     }
-}
-
-fn wide1(x: u8) -> u16
-    ensures { λ r. ⌜ (r ≡ x) × (r < 256) ⌝ }
-{
-    x as u16
-}
-
-fn wide2(x: u16) -> u32
-    ensures { λ r. ⌜ (r ≡ x) × (r < 65536) ⌝ }
-{
-    x as u32
-}
-
-fn wide4(x: u32) -> u64
-    ensures { λ r. ⌜ (r ≡ x) × (r < 4294967296) ⌝ }
-{
-    x as u64
 }
 
 // ---- writing
@@ -91,44 +73,51 @@ fn copy(s: &mut [u8], at: usize, run: &[u8])
     }
 }
 
+// Lays the low w octets of a number down at a place. Each caller gives a constant w, so that nothing of the loop and of the octets not
+// asked for is left in what it compiles to.
+fn write(s: &mut [u8], at: usize, w: usize, x: u64)
+    requires { ⌜ w ≤ 8 ⌝ }
+    ensures { λ _. ⌜ now (s .exit) ≡ laid (now (s .entry)) at (octets w x) ⌝ }
+{
+    let run = octets_of(x);
+    lay(s, at, from(&run, 8 - w));
+}
+
+// All octets of a number, found from the low one up.
+fn octets_of(x: u64) -> [u8; 8]
+    ensures { λ r. ⌜ r ≡ octets 8 x ⌝ }
+{
+    let mut run = [0u8; 8];
+    let mut rest = x;
+    let mut i: usize = 8;
+    while 0 < i {
+        i -= 1;
+        run[i] = (rest % 256) as u8;
+        rest = rest / 256;
+    }
+    run
+}
+
 pub fn write1(s: &mut [u8], at: usize, x: u8)
     ensures { λ _. ⌜ now (s .exit) ≡ laid (now (s .entry)) at (octets 1 x) ⌝ }
 {
-    let run = [x];
-    lay(s, at, &run);
+    write(s, at, 1, x as u64);
 }
 
 pub fn write2(s: &mut [u8], at: usize, x: u16)
     ensures { λ _. ⌜ now (s .exit) ≡ laid (now (s .entry)) at (octets 2 x) ⌝ }
 {
-    let run = [(x / 256 % 256) as u8, (x % 256) as u8];
-    lay(s, at, &run);
+    write(s, at, 2, x as u64);
 }
 
 pub fn write4(s: &mut [u8], at: usize, word: u32)
     ensures { λ _. ⌜ now (s .exit) ≡ laid (now (s .entry)) at (octets 4 word) ⌝ }
 {
-    let run = [
-        (word / 256 / 256 / 256 % 256) as u8,
-        (word / 256 / 256 % 256) as u8,
-        (word / 256 % 256) as u8,
-        (word % 256) as u8,
-    ];
-    lay(s, at, &run);
+    write(s, at, 4, word as u64);
 }
 
 pub fn write8(s: &mut [u8], at: usize, x: u64)
     ensures { λ _. ⌜ now (s .exit) ≡ laid (now (s .entry)) at (octets 8 x) ⌝ }
 {
-    let run = [
-        (x / 256 / 256 / 256 / 256 / 256 / 256 / 256 % 256) as u8,
-        (x / 256 / 256 / 256 / 256 / 256 / 256 % 256) as u8,
-        (x / 256 / 256 / 256 / 256 / 256 % 256) as u8,
-        (x / 256 / 256 / 256 / 256 % 256) as u8,
-        (x / 256 / 256 / 256 % 256) as u8,
-        (x / 256 / 256 % 256) as u8,
-        (x / 256 % 256) as u8,
-        (x % 256) as u8,
-    ];
-    lay(s, at, &run);
+    write(s, at, 8, x);
 }
