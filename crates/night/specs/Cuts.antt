@@ -25,10 +25,10 @@ unfoldable pub cutsBuffer : Given → List ℕ → ℕ → List ℕ → ℕ → 
 cutsBuffer g m u b zero = b
 cutsBuffer g m u b (suc c) = cutterBuffer g m u (suc c) (cutsBuffer g m u b c)
 
-abbrev pub cutTally : ℕ → Cutting → ℕ
-cutTally sum a = (sum + (cuttingNumber a + cuttingLength a)) % 2 ^ 64
+abbrev pub cutSum : ℕ → Cutting → ℕ
+cutSum sum a = (sum + (cuttingNumber a + cuttingLength a)) % 2 ^ 64
 
 -- The sum of what was answered for them.
-unfoldable pub cutsTally : Given → List ℕ → ℕ → List ℕ → ℕ → ℕ
-cutsTally g m u b zero = 0
-cutsTally g m u b (suc c) = cutTally (cutsTally g m u b c) (cutterAnswer g m u (suc c) (length (cutsBuffer g m u b c)))
+unfoldable pub cutsSum : Given → List ℕ → ℕ → List ℕ → ℕ → ℕ
+cutsSum g m u b zero = 0
+cutsSum g m u b (suc c) = cutSum (cutsSum g m u b c) (cutterAnswer g m u (suc c) (length (cutsBuffer g m u b c)))

@@ -41,27 +41,27 @@ packetsBy (n ∷ sizes) packets = message (take n packets) ∷ packetsBy sizes (
 -- ---- the number that is answered
 
 -- A refusal's number, a delivery's verdict.
-abbrev pub said : Outcome → ℕ
-said (Refused k) = k
-said Stored = 0
-said (Delivered v) = verdictNumber v
+abbrev pub told : Outcome → ℕ
+told (Refused k) = k
+told Stored = 0
+told (Delivered v) = verdictNumber v
 
 -- The sum with one more answer in it: what was said, the pieces held, and the length that was handed over.
-abbrev pub tallied : ℕ → Outcome → ℕ → ℕ → ℕ
-tallied sum o held n = ((sum + (said o + held * 256)) % 2 ^ 64 + n) % 2 ^ 64
+abbrev pub summed : ℕ → Outcome → ℕ → ℕ → ℕ
+summed sum o held n = ((sum + (told o + held * 256)) % 2 ^ 64 + n) % 2 ^ 64
 
-abbrev pub tallyAnswer : ℕ → Answer → List ℕ → ℕ
-tallyAnswer sum a delivered = tallied sum (a .outcome) (a .held) (length delivered)
+abbrev pub sumWith : ℕ → Answer → List ℕ → ℕ
+sumWith sum a delivered = summed sum (a .outcome) (a .held) (length delivered)
 
-unfoldable pub tallyBy : ℕ → World → Event → ℕ
-tallyBy sum w (message packet) =
+unfoldable pub sumBy : ℕ → World → Event → ℕ
+sumBy sum w (message packet) =
     let a = messageAnswer (w .state) (length (w .storage)) packet in
-    tallyAnswer sum a (partOf (a .place) packet (messageStorage (w .state) (w .storage) packet))
-tallyBy sum w (alive packet) = sum
-tallyBy sum w (clock now) = sum
-tallyBy sum w question = sum
+    sumWith sum a (partOf (a .place) packet (messageStorage (w .state) (w .storage) packet))
+sumBy sum w (alive packet) = sum
+sumBy sum w (clock now) = sum
+sumBy sum w question = sum
 
 -- Over calls, "each given the state and storage that the one before left".
-unfoldable pub tallyOf : ℕ → World → List Event → ℕ
-tallyOf sum w [] = sum
-tallyOf sum w (e ∷ es) = tallyOf (tallyBy sum w e) (step w e) es
+unfoldable pub nightSum : ℕ → World → List Event → ℕ
+nightSum sum w [] = sum
+nightSum sum w (e ∷ es) = nightSum (sumBy sum w e) (step w e) es

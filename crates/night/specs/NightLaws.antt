@@ -1,6 +1,6 @@
 -- A night packet by packet: from each world that is reached, what is left comes to the same end.
 use Prim.Native.Nat.{ℕ, zero, suc, _+_, _-_, _<_, _≤_}
-use mathlib.Core.Path.{_≡_, refl, sym, ap, _∙_}
+use mathlib.Core.Path.{_≡_, refl, sym, _∙_}
 use mathlib.Core.List.{List, [], _∷_}
 use native.Mathlib.Numerals.{add-one}
 use native.Mathlib.Omega.{arith}
@@ -8,7 +8,7 @@ use lib.ListN.{length, take, drop, getD, length-take, length-drop, drop-of-lengt
 use lib.Seq.{drop-cons, drop-drop}
 use Rattle.octets.specs.Run.{run}
 use Rattle.rules.specs.Past.{World, Event, message, step, after}
-use Rattle.night.specs.Night.{packetsBy, tallyBy, tallyOf}
+use Rattle.night.specs.Night.{packetsBy, sumBy, nightSum}
 
 -- Behind what was taken stands what is dropped, also where fewer octets were there.
 behind-taken : (n : ℕ) (l : List ℕ) → drop (length (take n l)) l ≡ drop n l
@@ -27,7 +27,7 @@ left sizes packets at i = packetsBy (drop i sizes) (drop at packets)
 
 -- The sum and the world that were reached there are on the way to the night's end.
 pub record Towards (sizes packets : List ℕ) (start : World) (sum : ℕ) (w : World) (at i : ℕ) : Type 0 where
-  pub counts : tallyOf sum w (left sizes packets at i) ≡ tallyOf 0 start (packetsBy sizes packets)
+  pub counts : nightSum sum w (left sizes packets at i) ≡ nightSum 0 start (packetsBy sizes packets)
   pub leads : after w (left sizes packets at i) ≡ after start (packetsBy sizes packets)
 
 module _ (sizes packets : List ℕ) where
@@ -51,17 +51,17 @@ module _ (sizes packets : List ℕ) where
       → Towards sizes packets start sum w at i
       → i < length sizes
       → p ≡ run at (getD sizes i 0) packets
-      → k ≡ tallyBy sum w (message p)
+      → k ≡ sumBy sum w (message p)
       → v ≡ step w (message p)
       → Towards sizes packets start k v (at + length p) (i + 1)
-  unfolding tallyOf after
+  unfolding nightSum after
   turn {at = at} {i = i} p t h e ek ev =
       let next = next-left at i h in
       record { counts = rw (ek, ev, e) (rw next at (t .counts)); leads = rw (ev, e) (rw next at (t .leads)) }
 
   -- No packet is left.
-  pub counted : {start w : World} {sum at i : ℕ} → Towards sizes packets start sum w at i → length sizes ≤ i → sum ≡ tallyOf 0 start (packetsBy sizes packets)
-  unfolding packetsBy tallyOf
+  pub counted : {start w : World} {sum at i : ℕ} → Towards sizes packets start sum w at i → length sizes ≤ i → sum ≡ nightSum 0 start (packetsBy sizes packets)
+  unfolding packetsBy nightSum
   counted t h = rw (drop-of-length-le sizes h) at (t .counts)
 
   pub reached : {start w : World} {sum at i : ℕ} → Towards sizes packets start sum w at i → length sizes ≤ i → w ≡ after start (packetsBy sizes packets)

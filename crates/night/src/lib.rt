@@ -5,8 +5,8 @@
 ghost use mathlib.Core.Path.{_≡_};
 ghost use Rattle.octets.specs.Run.{run};
 ghost use Rattle.rules.specs.Past.{after};
-ghost use Rattle.night.specs.Night.{nodesTo, boardOf, begun, packetsBy, said as saidOf, tallied, tallyOf};
-ghost use Rattle.night.specs.Cuts.{givenOf, cutTally, cutsTally, cutsBuffer};
+ghost use Rattle.night.specs.Night.{nodesTo, boardOf, begun, packetsBy, told as toldOf, summed, nightSum};
+ghost use Rattle.night.specs.Cuts.{givenOf, cutSum, cutsSum, cutsBuffer};
 use codes::DataField;
 use codes::Node;
 use cutter::Cutting;
@@ -34,7 +34,7 @@ pub extern "C" fn adp_night(
     sizes: &[u16],
     storage: &mut [u8],
 ) -> u64
-    ensures answer { λ r. ⌜ r ≡ tallyOf 0 (begun (boardOf mode n1 t senders) (now (storage .entry))) (packetsBy (now (sizes .entry)) (now (packets .entry))) ⌝ }
+    ensures answer { λ r. ⌜ r ≡ nightSum 0 (begun (boardOf mode n1 t senders) (now (storage .entry))) (packetsBy (now (sizes .entry)) (now (packets .entry))) ⌝ }
     ensures stored { λ _. ⌜ now (storage .exit) ≡ after (begun (boardOf mode n1 t senders) (now (storage .entry))) (packetsBy (now (sizes .entry)) (now (packets .entry))) .storage ⌝ }
 {
     let started = setup(board(mode, n1, t, senders));
@@ -47,7 +47,7 @@ pub extern "C" fn adp_night(
         let a = message(state, storage, packet);
         let outcome = a.outcome;
         let place = a.place;
-        sum = tally(sum, outcome, a.held, part(place, packet, storage).len());
+        sum = with_answer(sum, outcome, a.held, part(place, packet, storage).len());
         state = a.state;
         at += packet.len();
         i += 1;
@@ -58,7 +58,7 @@ pub extern "C" fn adp_night(
 // The pieces 1 to last of a message, each written into the same buffer.
 #[no_mangle]
 pub extern "C" fn adp_cuts(number: u32, message: &[u8], u: u16, last: u8, buffer: &mut [u8]) -> u64
-    ensures answer { λ r. ⌜ r ≡ cutsTally (givenOf number) (now (message .entry)) u (now (buffer .entry)) last ⌝ }
+    ensures answer { λ r. ⌜ r ≡ cutsSum (givenOf number) (now (message .entry)) u (now (buffer .entry)) last ⌝ }
     ensures written { λ _. ⌜ now (buffer .exit) ≡ cutsBuffer (givenOf number) (now (message .entry)) u (now (buffer .entry)) last ⌝ }
 {
     let given = given_of(number);
@@ -67,7 +67,7 @@ pub extern "C" fn adp_cuts(number: u32, message: &[u8], u: u16, last: u8, buffer
     while c < last {
         c += 1;
         let cutting = cutter(given, message, u, c, buffer);
-        sum = cut_tally(sum, cutting);
+        sum = with_cut(sum, cutting);
     }
     sum
 }
@@ -137,15 +137,15 @@ fn packet_at(packets: &[u8], at: usize, size: u16) -> &[u8]
 }
 
 // The sum with one more answer in it: its number or its verdict, the pieces held, and the length that was handed over.
-fn tally(sum: u64, o: Outcome, held: u8, length: usize) -> u64
-    ensures { λ r. ⌜ r ≡ tallied sum o held length ⌝ }
+fn with_answer(sum: u64, o: Outcome, held: u8, length: usize) -> u64
+    ensures { λ r. ⌜ r ≡ summed sum o held length ⌝ }
 {
-    let answer = said(o) as u64 + (held as u64) * 256;
+    let answer = told(o) as u64 + (held as u64) * 256;
     wrapping_add_u64(wrapping_add_u64(sum, answer), length as u64)
 }
 
-fn said(o: Outcome) -> u8
-    ensures { λ r. ⌜ r ≡ saidOf o ⌝ }
+fn told(o: Outcome) -> u8
+    ensures { λ r. ⌜ r ≡ toldOf o ⌝ }
 {
     match o {
         Outcome::Refused(number) => number,
@@ -155,8 +155,8 @@ fn said(o: Outcome) -> u8
 }
 
 // The sum with one more answer of the cutter in it.
-fn cut_tally(sum: u64, cutting: Cutting) -> u64
-    ensures { λ r. ⌜ r ≡ cutTally sum cutting ⌝ }
+fn with_cut(sum: u64, cutting: Cutting) -> u64
+    ensures { λ r. ⌜ r ≡ cutSum sum cutting ⌝ }
 {
     let answer = cutting.number() as u64 + cutting.length() as u64;
     wrapping_add_u64(sum, answer)

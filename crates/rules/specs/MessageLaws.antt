@@ -97,24 +97,24 @@ module _ (w : Receiver) (storage packet : List ℕ) where
       first-here 9 (not (l .valid)) _ (rw v) ∙ sym (first-here 9 (not (valid w)) _ (rw (sym (look-valid w (source (headOf packet)) l e) ∙ v))))
       (true-or-false (l .valid))
 
-  abbrev pub Said : Answer → List ℕ → Type 0
-  Said a s = (a ≡ messageAnswer w (length storage) packet) × (s ≡ messageStorage w storage packet)
+  abbrev pub Answered : Answer → List ℕ → Type 0
+  Answered a s = (a ≡ messageAnswer w (length storage) packet) × (s ≡ messageStorage w storage packet)
 
-  pub said-early : (k : ℕ) → k ≡ earlyNumber → (k ≡ 0 → ⊥) → Said (refused w k) storage
+  pub answered-early : (k : ℕ) → k ≡ earlyNumber → (k ≡ 0 → ⊥) → Answered (refused w k) storage
   unfolding messageAnswer messageStorage
-  said-early k e ne =
+  answered-early k e ne =
       let n : messageNumber w (length storage) packet ≡ k = number-is ∙ rw (← e, ne-eqb k 0 ne) in
       (rw (n, ne-eqb k 0 ne), rw (n, ne-eqb k 0 ne))
 
-  pub said-late : (k : ℕ) → earlyNumber ≡ 0 → k ≡ lateNumber → (k ≡ 0 → ⊥) → Said (refused w k) storage
+  pub answered-late : (k : ℕ) → earlyNumber ≡ 0 → k ≡ lateNumber → (k ≡ 0 → ⊥) → Answered (refused w k) storage
   unfolding messageAnswer messageStorage
-  said-late k z e ne =
+  answered-late k z e ne =
       let n : messageNumber w (length storage) packet ≡ k = number-is ∙ rw (z, ← e) in
       (rw (n, ne-eqb k 0 ne), rw (n, ne-eqb k 0 ne))
 
-  pub said-taken : earlyNumber ≡ 0 → lateNumber ≡ 0 → Said (taken w (found w (headOf packet)) (senderAt w (found w (headOf packet))) (headOf packet)) (storageAfter storage (found w (headOf packet)) (headOf packet) packet)
+  pub answered-taken : earlyNumber ≡ 0 → lateNumber ≡ 0 → Answered (taken w (found w (headOf packet)) (senderAt w (found w (headOf packet))) (headOf packet)) (storageAfter storage (found w (headOf packet)) (headOf packet) packet)
   unfolding messageAnswer messageStorage
-  said-taken z y =
+  answered-taken z y =
       let n : messageNumber w (length storage) packet ≡ 0 = number-is ∙ rw (z, y) in
       (rw n, rw n)
 
@@ -129,8 +129,8 @@ module _ (w : Receiver) (storage packet : List ℕ) (h : Head) (a : Address) (l 
   early-of : (k : ℕ) → k ≡ Rows → k ≡ earlyNumber w storage packet
   early-of k e = e ∙ rw eh (early-is w storage packet l look-is)
 
-  pub pass-refused : (k : ℕ) → k ≡ Rows → (k ≡ 0 → ⊥) → Said w storage packet (refused w k) storage
-  pass-refused k e ne = said-early w storage packet k (early-of k e) ne
+  pub pass-refused : (k : ℕ) → k ≡ Rows → (k ≡ 0 → ⊥) → Answered w storage packet (refused w k) storage
+  pass-refused k e ne = answered-early w storage packet k (early-of k e) ne
 
   -- The number before the sender's is 0.
   module _ (early : ℕ) (early-rows : early ≡ Rows) (early-none : early ≡ 0) where
@@ -160,8 +160,8 @@ module _ (w : Receiver) (storage packet : List ℕ) (h : Head) (a : Address) (l 
       late-of : refusedNumber (o .outcome) ≡ lateNumber w storage packet
       late-of = rw eo (admission-number (w .test) (w .n1) (w .clock) (senderAt w (l .at)) h ∙ sym late-is)
 
-      pub pass-late : (k : ℕ) → k ≡ refusedNumber (o .outcome) → (k ≡ 0 → ⊥) → Said w storage packet (refused w k) storage
-      pass-late k e ne = said-late w storage packet k early-zero (e ∙ late-of) ne
+      pub pass-late : (k : ℕ) → k ≡ refusedNumber (o .outcome) → (k ≡ 0 → ⊥) → Answered w storage packet (refused w k) storage
+      pass-late k e ne = answered-late w storage packet k early-zero (e ∙ late-of) ne
 
       -- And so is the sender's.
       module _ (late : ℕ) (late-refused : late ≡ refusedNumber (o .outcome)) (late-none : late ≡ 0) where
@@ -175,10 +175,10 @@ module _ (w : Receiver) (storage packet : List ℕ) (h : Head) (a : Address) (l 
         pass-admitted = admitted-facts (w .test) (w .n1) (senderAt w (l .at)) h rows-zero
 
         pub pass-taken : (p : Where) (s : List ℕ) → p ≡ whereBy (o .outcome) (l .at) h → s ≡ storageAfter storage (l .at) h packet
-            → Said w storage packet (record { outcome = o .outcome; held = o .held; dropped = o .dropped; place = p; state = withSender w (l .at) (o .sender) }) s
+            → Answered w storage packet (record { outcome = o .outcome; held = o .held; dropped = o .dropped; place = p; state = withSender w (l .at) (o .sender) }) s
         unfolding taken
         pass-taken p s ep es =
             let yes : o ≡ admitted (w .n1) (w .clock) (senderAt w (l .at)) h
             = eo ∙ admission-yes (w .test) (w .n1) (w .clock) (senderAt w (l .at)) h rows-zero in
-            let said = said-taken w storage packet early-zero (sym late-of ∙ none) in
+            let said = answered-taken w storage packet early-zero (sym late-of ∙ none) in
             (rw (ep, yes, eh, place-is) (said .0), es ∙ rw (eh, place-is) (said .1))

@@ -5,13 +5,13 @@ use native.Mathlib.Omega.{arith}
 use native.Mathlib.Numerals.{add-one}
 use borrow.Author.Needs.{needs}
 use lib.ListN.{length}
-use Rattle.night.specs.Cuts.{cutsTally, cutsBuffer}
+use Rattle.night.specs.Cuts.{cutsSum, cutsBuffer}
 use Rattle.night.proofs.adp_cuts.Statement.{statement}
 use Rattle.night.proofs.adp_cuts.Tie as tie
 
 abbrev Inv-loop : tie.InvT-loop
 Inv-loop number message u last buffer₀ given sum₀ c₀ buffer sum c =
-    (c ≤ last) × (length buffer ≡ length buffer₀) × (buffer ≡ cutsBuffer given message u buffer₀ c) × (sum ≡ cutsTally given message u buffer₀ c)
+    (c ≤ last) × (length buffer ≡ length buffer₀) × (buffer ≡ cutsBuffer given message u buffer₀ c) × (sum ≡ cutsSum given message u buffer₀ c)
 
 abbrev μ-loop : tie.MeasureT-loop
 μ-loop number message u last buffer₀ given sum₀ c₀ buffer sum c = last - c
@@ -20,7 +20,7 @@ given-of-requires : tie.Need-given-of-requires Inv-loop μ-loop
 given-of-requires c κs = search needs
 
 loop-holds : tie.Need-loop-holds Inv-loop μ-loop
-unfolding cutsTally cutsBuffer
+unfolding cutsSum cutsBuffer
 loop-holds c = (search needs, refl, refl, refl)
 
 add-c : tie.Need-add-c Inv-loop μ-loop
@@ -29,18 +29,18 @@ add-c c = omega arith
 cutter-requires : tie.Need-cutter-requires Inv-loop μ-loop
 cutter-requires c κs = search needs
 
-cut-tally-requires : tie.Need-cut-tally-requires Inv-loop μ-loop
-cut-tally-requires c κs = search needs
+with-cut-requires : tie.Need-with-cut-requires Inv-loop μ-loop
+with-cut-requires c κs = search needs
 
 loop-less : tie.Need-loop-less Inv-loop μ-loop
 loop-less c = omega arith
 
 loop-again : tie.Need-loop-again Inv-loop μ-loop
-unfolding cutsTally cutsBuffer
+unfolding cutsSum cutsBuffer
 loop-again c =
     let l = c .before .before .before .before .before .before .loop in
     let k = c .before .before .before .cutter in
-    (omega arith, search (needs, l .inv .1), simp (add-one, k .ensures .1, l .inv .2), simp (add-one, c .cut-tally .ensures, k .ensures .0, l .inv .3, l .inv .2))
+    (omega arith, search (needs, l .inv .1), simp (add-one, k .ensures .1, l .inv .2), simp (add-one, c .with-cut .ensures, k .ensures .0, l .inv .3, l .inv .2))
 
 same-length : tie.Need-same-length Inv-loop μ-loop
 same-length c = search needs
@@ -63,7 +63,7 @@ adp-cuts-spec =
     loop-holds
     add-c
     cutter-requires
-    cut-tally-requires
+    with-cut-requires
     loop-less
     loop-again
     same-length

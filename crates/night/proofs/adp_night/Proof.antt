@@ -6,7 +6,7 @@ use borrow.Author.Needs.{needs}
 use lib.ListN.{length}
 use Rattle.rules.specs.Past.{World, step}
 use Rattle.rules.specs.PastLaws.{same-room}
-use Rattle.night.specs.Night.{boardOf, begun, tallyBy}
+use Rattle.night.specs.Night.{boardOf, begun, sumBy}
 use Rattle.night.specs.NightLaws.{Towards, ends-within, begins, turn, counted, reached}
 use Rattle.night.proofs.adp_night.Statement.{statement}
 use Rattle.night.proofs.adp_night.Tie as tie
@@ -47,8 +47,8 @@ message-requires c κs = search needs
 part-requires : tie.Need-part-requires Inv-loop μ-loop
 part-requires c κs = search needs
 
-tally-requires : tie.Need-tally-requires Inv-loop μ-loop
-tally-requires c κs = search needs
+with-answer-requires : tie.Need-with-answer-requires Inv-loop μ-loop
+with-answer-requires c κs = search needs
 
 add-at : tie.Need-add-at Inv-loop μ-loop
 add-at c =
@@ -68,7 +68,7 @@ loop-less : tie.Need-loop-less Inv-loop μ-loop
 loop-less c = omega arith
 
 loop-again : tie.Need-loop-again Inv-loop μ-loop
-unfolding step tallyBy
+unfolding step sumBy
 loop-again c =
     let test = c .before .before .before .before .before .before .before .before .before .before in
     let l = test .before .loop in
@@ -79,7 +79,7 @@ loop-again c =
       ends-within _ _ (l .at) _ (l .inv .1) (p .ensures),
       ap length (m .ensures .1) ∙ same-room _ _ _ ∙ l .inv .2,
       turn _ _ _ (l .inv .3) (omega (arith, more)) (p .ensures)
-          (simp (c .before .tally .ensures, c .before .before .part .ensures, m .ensures .0, m .ensures .1))
+          (simp (c .before .with-answer .ensures, c .before .before .part .ensures, m .ensures .0, m .ensures .1))
           (simp (m .ensures .0, m .ensures .1)),
     )
 
@@ -105,7 +105,7 @@ adp-night-spec =
     packet-at-requires
     message-requires
     part-requires
-    tally-requires
+    with-answer-requires
     add-at
     add-i
     loop-less
