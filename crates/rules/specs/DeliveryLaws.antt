@@ -35,7 +35,7 @@ use Rattle.rules.specs.PhaseLaws.{Phase, phase-same, phase-start, phase-
 use Rattle.rules.specs.PieceLaws.{Cuttable, least, piece-kin, piece-number, piece-octets}
 use Rattle.rules.specs.JoinLaws.{Inv}
 use Rattle.rules.specs.SafeLaws.{IfTaken, accepted-step, accepted-all, inv-step, inv-after, joined-part, start-inv, start-registered}
-use Rattle.rules.specs.View.{Settings, settingsFrom, View, joining, view, isFrom, seen, outcomeView, nextView, tickView, stepView}
+use Rattle.rules.specs.View.{Settings, settingsFrom, View, joining, view, isFrom, sees, outcomeView, nextView, tickView, stepView}
 use Rattle.rules.specs.ViewLaws.{Registered, registered-step, registered-view, registered-number, registered-outcome, registered-after}
 
 open-facts : (m : Sent) (s : Sender) → isOpen m s ≡ true → (s .«open» ≡ true) × (s .message .version .0 ≡ m .version) × (s .message .number .0 ≡ m .number)
@@ -66,7 +66,7 @@ module _ (g : Settings) (m : Sent) (k : Cuttable m) (admits : eqb (m .mode) 1 &&
     abbrev v : View
     v = view w i
 
-    on-step : (D : ℕ → Type 0) (e : Event) → IfTaken (m .address) Own w e → Phase m last D (stepView g v (seen (m .address) e) .sender) → OnItsWay D (step w e)
+    on-step : (D : ℕ → Type 0) (e : Event) → IfTaken (m .address) Own w e → Phase m last D (stepView g v (sees (m .address) e) .sender) → OnItsWay D (step w e)
     on-step D e f phase = record {
       registered = registered-step g (m .address) i w (o .registered) e;
       packets = acceptedOf (m .address) (o .packets) e (said w e);
@@ -94,7 +94,7 @@ module _ (g : Settings) (m : Sent) (k : Cuttable m) (admits : eqb (m .mode) 1 &&
         rw (subst (λ (x : ℕ). eqb x 0 ≡ false) number (sym (accepted-is (w .state) (length (w .storage)) p) ∙ refused))
 
     own-packet : (p : List ℕ) → isFrom (m .address) p ≡ true → ElseRefused m w p → OnItsWay (λ d. C d ⊎ PieceOf m d p) (step w (message p))
-    unfolding seen stepView
+    unfolding sees stepView
     own-packet p mine (inl is) = on-step (λ d. C d ⊎ PieceOf m d p) (message p) (λ _ _ _ _. is) (rw mine (own-piece p (is .0) (is .1)))
     own-packet p mine (inr not) = on-step (λ d. C d ⊎ PieceOf m d p) (message p) (λ _ yes. absurd (never-both yes (not .1)))
         (rw (mine, still p mine (not .1)) (same-pieces (λ d. PieceOf m d p) (not .0) (o .phase)))
@@ -102,7 +102,7 @@ module _ (g : Settings) (m : Sent) (k : Cuttable m) (admits : eqb (m .mode) 1 &&
     -- ---- any call that may come
 
     other-packet : (p : List ℕ) → isFrom (m .address) p ≡ false → OnItsWay (λ d. C d ⊎ PieceOf m d p) (step w (message p))
-    unfolding seen stepView
+    unfolding sees stepView
     other-packet p e = on-step (λ d. C d ⊎ PieceOf m d p) (message p) (λ mine. absurd (never-both mine e))
         (rw e (same-pieces (λ d. PieceOf m d p) (λ d is. never-both (is .from) e) (o .phase)))
 
@@ -122,7 +122,7 @@ module _ (g : Settings) (m : Sent) (k : Cuttable m) (admits : eqb (m .mode) 1 &&
         (true-or-false (ltb now (v .now) || ltb clockMost now))
 
     way-step : (e : Event) → Allowed (ElseRefused m) m i w e → OnItsWay (λ d. C d ⊎ Brings m d e) (step w e)
-    unfolding seen stepView
+    unfolding sees stepView
     way-step (message p) f = ⊎-elim
         (λ (e : isFrom (m .address) p ≡ true). own-packet p e (f e))
         (λ (e : isFrom (m .address) p ≡ false). other-packet p e)

@@ -39,7 +39,7 @@ use Rattle.rules.specs.Part.{partOf, storedPart}
 use Rattle.rules.specs.Past.{World, Event, message, alive, clock, question, step, after, answerTo, partTo, said, answers, Start}
 use Rattle.rules.specs.PastLaws.{Sound, length-after, start-sound, start-sender, past-sound, after-count}
 use Rattle.rules.specs.QuestionLaws.{first-holds}
-use Rattle.rules.specs.View.{Settings, settingsFrom, view, inOrder, isFrom, seen, numberOf, stepView}
+use Rattle.rules.specs.View.{Settings, settingsFrom, view, inOrder, isFrom, sees, numberOf, stepView}
 use Rattle.rules.specs.ViewLaws.{out-of-order, number-at, own-octets, fills-joining, Registered, registered-step, registered-view, registered-number, registered-place, registered-after}
 
 module _ (w : World) (sound : Sound w) (p : List ℕ) (vd : Verdict) (gave : messageAnswer (w .state) (length (w .storage)) p .outcome ≡ Delivered vd) where
@@ -218,7 +218,7 @@ IfTaken a P w question = Unit {0}
 
 module _ (g : Settings) (a : Address) (i : ℕ) where
   pub inv-step : (w : World) → Registered g a i w → (packets : List (List ℕ)) → Inv packets (view w i) → (e : Event) → Inv (acceptedOf a packets e (said w e)) (view (step w e) i)
-  unfolding said seen stepView
+  unfolding said sees stepView
   inv-step w r packets inv (message p) = subst (Inv (acceptedWith a packets p (answerTo w p))) (sym (registered-view g a i w r (message p))) (⊎-elim
       (λ (e : isFrom a p ≡ true).
       rw (e, own-accepted g a i w r packets p e)

@@ -54,11 +54,11 @@ pub data Seen : Type 0 where
   time : ℕ → Seen
   other : Seen
 
-unfoldable pub seen : Address → Event → Seen
-seen a (message packet) = cond (isFrom a packet) (own packet) other
-seen a (alive packet) = other
-seen a (clock now) = time now
-seen a question = other
+unfoldable pub sees : Address → Event → Seen
+sees a (message packet) = cond (isFrom a packet) (own packet) other
+sees a (alive packet) = other
+sees a (clock now) = time now
+sees a question = other
 
 -- ---- what it does
 

@@ -41,7 +41,7 @@ use Rattle.rules.specs.MessageLaws.{Passed, taken-facts}
 use Rattle.rules.specs.Past.{World, Event, message, alive, clock, question, step, after}
 use Rattle.rules.specs.PastLaws.{Sound, same-count, step-sound}
 use Rattle.rules.specs.QuestionLaws.{first-of, first-holds}
-use Rattle.rules.specs.View.{Settings, settingsFrom, View, joining, view, inOrder, isFrom, seen, numberOf, outcomeView, put, nextView, tickView, stepView}
+use Rattle.rules.specs.View.{Settings, settingsFrom, View, joining, view, inOrder, isFrom, sees, numberOf, outcomeView, put, nextView, tickView, stepView}
 
 -- ---- a packet in order comes as far as its sender's place
 
@@ -296,8 +296,8 @@ module _ (w : World) (sound : Sound w) (i : ℕ) (here : i < w .state .count) wh
 
   -- ---- each call
 
-  pub view-step : (e : Event) → view (step w e) i ≡ stepView g v (seen (addressAt (w .state .senders) i) e)
-  unfolding seen stepView
+  pub view-step : (e : Event) → view (step w e) i ≡ stepView g v (sees (addressAt (w .state .senders) i) e)
+  unfolding sees stepView
   view-step (message packet) = ⊎-elim
       (λ (e : isFrom (addressAt (w .state .senders) i) packet ≡ true). rw e (view-own packet e))
       (λ (e : isFrom (addressAt (w .state .senders) i) packet ≡ false). rw e (view-other packet e))
@@ -363,7 +363,7 @@ module _ (g : Settings) (a : Address) (i : ℕ) (w : World) (r : Registered g a 
   }
 
   -- What a call does to the sender's view is what it is to the sender.
-  pub registered-view : (e : Event) → view (step w e) i ≡ stepView g (view w i) (seen a e)
+  pub registered-view : (e : Event) → view (step w e) i ≡ stepView g (view w i) (sees a e)
   registered-view e = view-step w (r .sound) i (r .here) e ∙ rw (r .settings, r .address)
 
   pub registered-number : (packet : List ℕ) → isFrom a packet ≡ true → messageNumber (w .state) (length (w .storage)) packet ≡ numberOf g (view w i) packet
