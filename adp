@@ -25,13 +25,13 @@ command -v rt >/dev/null || fail 2 'rt, the Rattle toolchain, is not on the PATH
 
 # Builds the program where it is missing, or older than what it is made of.
 build() {
-    local program=$here/target/bin/adp
+    local program=$here/target/bin/capture
     [ ! -x "$program" ] || [ -n "$(find "$here/crates" "$here/crates.txt" -newer "$program" -print -quit)" ] || return 0
     printf 'adp: proving and building (some minutes the first time)\n' >&2
     mkdir -p "$here/target"
-    (cd "$here" && rt check adp >target/adp.log 2>&1 </dev/null) || fail 1 'it is not proved; target/adp.log has what rt said'
+    (cd "$here" && rt check capture >target/adp.log 2>&1 </dev/null) || fail 1 'it is not proved; target/adp.log has what rt said'
     touch "$program" # rt leaves a program alone that what has changed does not touch
 }
 build
 
-exec "$here/tools/run" adp
+exec "$here/tools/run" capture

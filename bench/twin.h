@@ -1,4 +1,4 @@
-/* The calls that the bench makes: ours, of the library that is built from crates/night, and the twin's, of twin.c. A slice is a pointer and
+/* The calls that the bench makes: ours, of the library that is built from crates/bench_nights, and the twin's, of twin.c. A slice is a pointer and
  * a length. Both sides take and answer the same. */
 #ifndef TWIN_H
 #define TWIN_H

@@ -5,10 +5,10 @@
 ghost use mathlib.Core.Path.{_≡_};
 ghost use Rattle.rules.specs.Alive.{aliveHeadWithin, aliveWithin, signalRows, heardAs, heardBy, aliveAnswer};
 ghost use Rattle.rules.specs.First.{first};
-use codes::code_of;
-use codes::is_mode;
-use codes::is_pri;
 use header::Head;
+use header::codes::code_of;
+use header::codes::is_mode;
+use header::codes::is_pri;
 use header::is_fixed;
 use header::read_head;
 use rules::answers::Call;

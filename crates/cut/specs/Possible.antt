@@ -3,7 +3,7 @@ use Prim.Native.Nat.{ℕ, _-_, _*_, _/_, _%_}
 use mathlib.Core.Bool.{Bool, cond, _&&_}
 use lib.Dec.{eqb, leb, ltb}
 use Rattle.header.specs.declared.Cut.{Cut}
-use Rattle.codes.specs.Codes.{within}
+use Rattle.header.specs.Codes.{within}
 use Rattle.header.specs.Places.{headerSize}
 use Rattle.cut.specs.Pieces.{mostOctets, leastUnit, mostUnit, piecePlace}
 

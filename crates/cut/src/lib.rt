@@ -2,5 +2,6 @@
 //
 // Every public function is total. Lengths are in octets, and pieces are counted from 1.
 
+pub mod cutter;
 pub mod pieces;
 pub mod possible;

@@ -1,3 +1,5 @@
+pub mod Codes
+pub mod CodesLaws
 pub mod Layout
 pub mod LayoutLaws
 pub mod Places

@@ -9,10 +9,11 @@ ghost use Rattle.octets.specs.Run.{laid};
 ghost use Rattle.header.specs.Head.{valueAt, givenOf, cutOf, headOf, header, headed, isFixed};
 ghost use Rattle.header.specs.Places.Field.{inqId};
 
+pub mod codes;
 pub mod places;
 
-use codes::DataField;
-use codes::Node;
+use crate::codes::DataField;
+use crate::codes::Node;
 use octets::lay;
 use octets::read1;
 use octets::read2;

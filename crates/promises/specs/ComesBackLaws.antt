@@ -16,13 +16,13 @@ use Rattle.ring.specs.declared.Verdict.the-variants.{Unchecked, First}
 use Rattle.ring.specs.Check.{check, isRepeat}
 use Rattle.header.specs.declared.Given.{Given}
 use Rattle.header.specs.Places.{headerSize}
-use Rattle.cutter.specs.declared.Cutting.{Cutting}
-use Rattle.cutter.specs.declared.Cutting.the-variants as cutting
-use Rattle.cutter.specs.Cutter.{cuts, cutterAnswer, cutterBuffer, cuttingLength, pdu}
-use Rattle.cutter.specs.CutterLaws.{Within, length-pdu}
+use Rattle.cut.specs.declared.cutter.Cutting.{Cutting}
+use Rattle.cut.specs.declared.cutter.Cutting.the-variants as cutting
+use Rattle.cut.specs.Cutter.{cuts, cutterAnswer, cutterBuffer, cuttingLength, pdu}
+use Rattle.cut.specs.CutterLaws.{Within, length-pdu}
 use Rattle.cut.specs.Pieces.{leastUnit, mostUnit, pieceLength}
 use Rattle.cut.specs.Possible.{isUnit}
-use Rattle.cutter.specs.ReadLaws.{Words, cuts-within, cuts-room}
+use Rattle.cut.specs.ReadLaws.{Words, cuts-within, cuts-room}
 use Rattle.state.specs.declared.Sender.{Sender}
 use Rattle.rules.specs.declared.answers.Outcome.the-variants as outcome
 use Rattle.rules.specs.CutPieces.{sentBy, cuts-piece}

@@ -6,8 +6,8 @@ use mathlib.Core.Path.{_≡_}
 use mathlib.Core.List.{List, [], _∷_}
 use lib.ListN.{length}
 use Rattle.header.specs.declared.Given.{Given}
-use Rattle.cutter.specs.declared.Cutting.{Cutting}
-use Rattle.cutter.specs.Cutter.{cutterAnswer, cutterBuffer}
+use Rattle.cut.specs.declared.cutter.Cutting.{Cutting}
+use Rattle.cut.specs.Cutter.{cutterAnswer, cutterBuffer}
 use Rattle.state.specs.declared.Receiver.{Receiver}
 use Rattle.rules.specs.declared.answers.Answer.{Answer}
 use Rattle.rules.specs.declared.answers.Missing.{Missing}

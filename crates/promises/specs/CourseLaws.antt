@@ -5,7 +5,7 @@ use mathlib.Core.Path.{_≡_, refl, sym, ap, subst, _∙_}
 use mathlib.Core.List.{List, [], _∷_}
 use Rattle.octets.specs.Answer.{one-answer}
 use Rattle.header.specs.declared.Given.{Given}
-use Rattle.cutter.specs.declared.Cutting.{Cutting}
+use Rattle.cut.specs.declared.cutter.Cutting.{Cutting}
 use Rattle.state.specs.declared.Receiver.{Receiver}
 use Rattle.rules.specs.declared.answers.Answer.{Answer}
 use Rattle.rules.specs.declared.answers.Noted.{Noted}

@@ -13,11 +13,11 @@ use lib.ListN.{length, take}
 use Rattle.ring.specs.declared.Verdict.{Verdict}
 use Rattle.header.specs.declared.Given.{Given}
 use Rattle.header.specs.Head.{headOf}
-use Rattle.cutter.specs.declared.Cutting.{Cutting}
-use Rattle.cutter.specs.declared.Cutting.the-variants as cutting
-use Rattle.cutter.specs.Cutter.{cuts}
-use Rattle.cutter.specs.Edges.{all, edges}
-use Rattle.cutter.specs.ReadLaws.{Words}
+use Rattle.cut.specs.declared.cutter.Cutting.{Cutting}
+use Rattle.cut.specs.declared.cutter.Cutting.the-variants as cutting
+use Rattle.cut.specs.Cutter.{cuts}
+use Rattle.cut.specs.Edges.{all, edges}
+use Rattle.cut.specs.ReadLaws.{Words}
 use Rattle.state.specs.Limits.{addressAt}
 use Rattle.state.specs.State.{noLast, senderAt, emptyReceiver}
 use Rattle.state.specs.Table.{source}

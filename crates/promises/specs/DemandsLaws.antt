@@ -10,10 +10,10 @@ use lib.ListN.{length}
 use borrow.Author.Tests.{eq-eqb, not-true}
 use Rattle.octets.specs.Split.{never-both}
 use Rattle.header.specs.Head.{headOf}
-use Rattle.cutter.specs.declared.Cutting.{Cutting}
-use Rattle.cutter.specs.declared.Cutting.the-variants as cutting
+use Rattle.cut.specs.declared.cutter.Cutting.{Cutting}
+use Rattle.cut.specs.declared.cutter.Cutting.the-variants as cutting
 use Rattle.header.specs.Places.{headerSize}
-use Rattle.cutter.specs.Cutter.{cuts, cutterAnswer, cutterBuffer}
+use Rattle.cut.specs.Cutter.{cuts, cutterAnswer, cutterBuffer}
 use Rattle.cut.specs.Pieces.{pieceLength}
 use Rattle.state.specs.declared.Address.{Address}
 use Rattle.state.specs.Limits.{addressAt, valid}

@@ -1,5 +1,5 @@
 -- The demands are kept: every statement of Demands.antt, proved. Assumes nothing.
-use Rattle.cutter.specs.Edges as edges
+use Rattle.cut.specs.Edges as edges
 use Rattle.promises.specs.ComesBackLaws as comes-back
 use Rattle.promises.specs.CourseLaws as course
 use Rattle.promises.specs.Demands.{Demands}

@@ -6,7 +6,7 @@ ghost use mathlib.Core.Path.{_≡_};
 ghost use mathlib.Core.List.{List};
 ghost use Prim.Native.Nat.{ℕ, _*_};
 ghost use lib.ListN.{length};
-ghost use Rattle.cutter.specs.Cutter.{cutterAnswer, cutterBuffer};
+ghost use Rattle.cut.specs.Cutter.{cutterAnswer, cutterBuffer};
 ghost use Rattle.rules.specs.Alive.{aliveAnswer};
 ghost use Rattle.rules.specs.Clock.{clockAnswer};
 ghost use Rattle.rules.specs.Message.{area, messageAnswer, messageStorage};
@@ -16,7 +16,7 @@ ghost use Rattle.rules.specs.Past.{step, after, said};
 ghost use Rattle.rules.specs.Question.{questionAnswer};
 ghost use Rattle.rules.specs.Setup.{setupAnswer};
 ghost use Rattle.promises.specs.Course.{world, messagesOf, Leads, SetupMeets, MessageMeets, PartMeets, AliveMeets, ClockMeets, QuestionMeets, CutterMeets};
-use cutter::Cutting;
+use cut::cutter::Cutting;
 use header::Given;
 use rules::answers::Answer;
 use rules::answers::Missing;
@@ -87,5 +87,5 @@ pub fn cutter(given: Given, message: &[u8], u: u16, piece: u8, buffer: &mut [u8]
     ensures written { λ _. ⌜ now (buffer .exit) ≡ cutterBuffer given (now (message .entry)) u piece (now (buffer .entry)) ⌝ }
     ensures meets { λ r. ⌜ CutterMeets given (now (message .entry)) u piece (now (buffer .entry)) r (now (buffer .exit)) ⌝ }
 {
-    cutter::cutter(given, message, u, piece, buffer)
+    cut::cutter::cutter(given, message, u, piece, buffer)
 }

@@ -11,7 +11,7 @@ use Rattle.octets.specs.Split.{cond-case, both, and-left, and-right, or-right}
 use Rattle.ring.specs.Check.{isUnchecked}
 use Rattle.ring.specs.Ring.{M, isNumber}
 use Rattle.header.specs.declared.Head.{Head}
-use Rattle.codes.specs.Codes.{isUser}
+use Rattle.header.specs.Codes.{isUser}
 use Rattle.cut.specs.Possible.{unit, messageLength}
 use Rattle.cut.specs.PossibleLaws.{possible-facts, possible-several, several-of}
 use Rattle.map.specs.Map.{fullMap, pieceBit}

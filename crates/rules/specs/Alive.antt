@@ -9,7 +9,7 @@ use Rattle.header.specs.declared.Head.{Head}
 use Rattle.signal.specs.declared.Body.{Body}
 use Rattle.signal.specs.Alive.{bodyOf, isBody, groupOf}
 use Rattle.signal.specs.AlivePlaces.{aliveSize}
-use Rattle.codes.specs.Codes.{isAlive, isMode, isPri}
+use Rattle.header.specs.Codes.{isAlive, isMode, isPri}
 use Rattle.header.specs.Head.{headOf, isFixed}
 use Rattle.state.specs.declared.Heard.{Heard}
 use Rattle.state.specs.declared.Sender.{Sender}

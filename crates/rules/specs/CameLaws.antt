@@ -13,7 +13,7 @@ use Rattle.octets.specs.Split.{eq-or-ne}
 use Rattle.header.specs.declared.Cut.{Cut}
 use Rattle.header.specs.Head.{headOf}
 use Rattle.header.specs.Places.{headerSize}
-use Rattle.cutter.specs.Cutter.{cutFor}
+use Rattle.cut.specs.Cutter.{cutFor}
 use Rattle.cut.specs.Pieces.{piece}
 use Rattle.rules.specs.Delivery.{Sent, count, PieceOf, Brings, Came, OneApplies, is-last, is-one, came-before, all-came}
 use Rattle.rules.specs.Past.{Event, message, alive, clock, question}

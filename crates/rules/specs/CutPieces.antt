@@ -11,14 +11,14 @@ use borrow.Author.Tests.{eq-eqb, le-ltb}
 use Rattle.octets.specs.Split.{and-left, and-right}
 use Rattle.ring.specs.Ring.{isNumber}
 use Rattle.header.specs.declared.Given.{Given}
-use Rattle.codes.specs.Codes.{isDataField, isNode, isUser, isMode, isPri}
+use Rattle.header.specs.Codes.{isDataField, isNode, isUser, isMode, isPri}
 use Rattle.header.specs.Head.{header, headOf, isFixed}
 use Rattle.header.specs.HeadLaws.{length-header}
 use Rattle.header.specs.Places.{headerSize}
-use Rattle.cutter.specs.Cutter.{headFor, pdu, givenWithin, pieceWithin, limitsWithin, cuts}
-use Rattle.cutter.specs.CutterLaws.{Within, within-short, length-pdu}
+use Rattle.cut.specs.Cutter.{headFor, pdu, givenWithin, pieceWithin, limitsWithin, cuts}
+use Rattle.cut.specs.CutterLaws.{Within, within-short, length-pdu}
 use Rattle.cut.specs.Pieces.{pieceLength, piece}
-use Rattle.cutter.specs.ReadLaws.{Words, cuts-within, pdu-head, pdu-fixed}
+use Rattle.cut.specs.ReadLaws.{Words, cuts-within, pdu-head, pdu-fixed}
 use Rattle.rules.specs.Delivery.{Sent, PieceOf}
 use Rattle.rules.specs.Message.{lengthWrong, headWithin}
 use Rattle.rules.specs.View.{inOrder, isFrom}

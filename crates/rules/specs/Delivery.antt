@@ -13,7 +13,7 @@ use Rattle.ring.specs.Check.{check, isRepeat}
 use Rattle.ring.specs.Ring.{newer}
 use Rattle.header.specs.Head.{headOf}
 use Rattle.header.specs.Places.{headerSize}
-use Rattle.cutter.specs.Cutter.{cutFor}
+use Rattle.cut.specs.Cutter.{cutFor}
 use Rattle.cut.specs.Pieces.{mostOctets, pieces, piece}
 use Rattle.cut.specs.Possible.{isUnit}
 use Rattle.map.specs.Map.{bit}

@@ -7,7 +7,7 @@ use lib.ListN.{set, length}
 use Rattle.octets.specs.Run.{run, laid}
 use Rattle.ring.specs.Ring.{isNumber}
 use Rattle.header.specs.declared.Head.{Head}
-use Rattle.codes.specs.Codes.{isUser, isMode, isPri}
+use Rattle.header.specs.Codes.{isUser, isMode, isPri}
 use Rattle.header.specs.Head.{headOf, isFixed}
 use Rattle.header.specs.Places.{headerSize}
 use Rattle.cut.specs.Possible.{place, messageLength, ownLength}

@@ -12,7 +12,7 @@ use Rattle.ring.specs.Check.{isRepeat}
 use Rattle.ring.specs.Ring.{newer}
 use Rattle.header.specs.declared.Given.{Given}
 use Rattle.header.specs.Head.{headOf}
-use Rattle.cutter.specs.Cutter.{pdu}
+use Rattle.cut.specs.Cutter.{pdu}
 use Rattle.cut.specs.Pieces.{mostOctets}
 use Rattle.cut.specs.Possible.{isUnit}
 use Rattle.state.specs.declared.Address.{Address}

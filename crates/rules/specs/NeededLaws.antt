@@ -15,10 +15,10 @@ use Rattle.ring.specs.declared.Verdict.{Verdict}
 use Rattle.ring.specs.Check.{check, rule4, isRepeat}
 use Rattle.ring.specs.Ring.{remainder, newer}
 use Rattle.header.specs.declared.Cut.{Cut}
-use Rattle.codes.specs.Codes.{codeOf}
+use Rattle.header.specs.Codes.{codeOf}
 use Rattle.header.specs.Head.{header, headOf, isFixed}
 use Rattle.header.specs.Layout.{layout, tabulate, octetOf}
-use Rattle.cutter.specs.Cutter.{pdu}
+use Rattle.cut.specs.Cutter.{pdu}
 use Rattle.cut.specs.Pieces.{mostOctets, pieces, pieceLength, piece}
 use Rattle.cut.specs.Possible.{unit, isUnit, frontPossible, lastPossible, severalPossible, possible}
 use Rattle.map.specs.Map.{bit}

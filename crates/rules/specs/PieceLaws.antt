@@ -16,11 +16,11 @@ use Rattle.ring.specs.Ring.{OnRing, isNumber, newer}
 use Rattle.ring.specs.RingLaws.{on-ring}
 use Rattle.header.specs.declared.Cut.{Cut}
 use Rattle.header.specs.declared.Head.{Head}
-use Rattle.codes.specs.Codes.{isUser, isMode, isPri}
+use Rattle.header.specs.Codes.{isUser, isMode, isPri}
 use Rattle.header.specs.Head.{headOf, isFixed}
 use Rattle.header.specs.Places.{headerSize}
-use Rattle.cutter.specs.Cutter.{cutFor}
-use Rattle.cutter.specs.CutterLaws.{Within, length-piece, unit-same, cut-possible, cut-same}
+use Rattle.cut.specs.Cutter.{cutFor}
+use Rattle.cut.specs.CutterLaws.{Within, length-piece, unit-same, cut-possible, cut-same}
 use Rattle.cut.specs.Pieces.{mostOctets, leastUnit, mostUnit, piece}
 use Rattle.cut.specs.PiecesLaws.{pieces-one, pieces-some}
 use Rattle.cut.specs.Possible.{possible, messageLength, ownLength, unit, isUnit}

@@ -5,7 +5,7 @@ use mathlib.Core.Bool.{Bool, cond, _&&_}
 use mathlib.Core.List.{List}
 use lib.Dec.{eqb, leb}
 use lib.ListN.{set, replicate}
-use Rattle.codes.specs.Codes.{within}
+use Rattle.header.specs.Codes.{within}
 use Rattle.state.specs.declared.Address.{Address}
 use Rattle.state.specs.declared.Sender.{Sender}
 use Rattle.state.specs.declared.Receiver.{Receiver}

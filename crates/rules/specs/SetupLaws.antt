@@ -5,7 +5,7 @@ use Prim.Native.Nat.{_≤_}
 use lib.Dec.{leb}
 use borrow.Author.Tests.{leb-true}
 use Rattle.octets.specs.Split.{and-left, and-right}
-use Rattle.codes.specs.Codes.{within}
+use Rattle.header.specs.Codes.{within}
 use Rattle.rules.specs.declared.answers.Setup.{Setup}
 use Rattle.state.specs.Limits.{isN1, isDropTime, sendersMost, addressesWithin}
 use Rattle.rules.specs.Setup.{setupWithin}

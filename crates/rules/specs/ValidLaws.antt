@@ -13,7 +13,7 @@ use Rattle.octets.specs.Split.{true-or-false, cond-case, both, and-left, and-ri
 use Rattle.ring.specs.Ring.{isNumber}
 use Rattle.signal.specs.declared.Body.{Body}
 use Rattle.signal.specs.Alive.{bodyOf}
-use Rattle.codes.specs.Codes.{within, isUser, isMode, isPri}
+use Rattle.header.specs.Codes.{within, isUser, isMode, isPri}
 use Rattle.header.specs.Head.{headOf, isFixed}
 use Rattle.state.specs.declared.Address.{Address}
 use Rattle.state.specs.declared.Sender.{Sender}

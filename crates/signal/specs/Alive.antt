@@ -8,7 +8,7 @@ use Rattle.octets.specs.Number.{number}
 use Rattle.signal.specs.declared.Body.{Body}
 use Rattle.signal.specs.AlivePlaces.{AliveField, alivePlace}
 use Rattle.signal.specs.AlivePlaces.AliveField.{alTmOut, alMode, alProtocol, alVer}
-use Rattle.codes.specs.Codes.{within}
+use Rattle.header.specs.Codes.{within}
 
 -- The number at a field's place.
 abbrev pub aliveValue : List ℕ → AliveField → ℕ

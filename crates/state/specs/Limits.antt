@@ -7,7 +7,7 @@ use mathlib.Core.List.{List}
 use lib.Dec.{eqb, leb, ltb}
 use lib.ListN.{getD}
 use Rattle.ring.specs.Ring.{M, isNumber}
-use Rattle.codes.specs.Codes.{within, isDataField, isNode, isUser}
+use Rattle.header.specs.Codes.{within, isDataField, isNode, isUser}
 use Rattle.cut.specs.Possible.{severalPossible}
 use Rattle.map.specs.Map.{isPartial}
 use Rattle.state.specs.declared.Last.{Last}

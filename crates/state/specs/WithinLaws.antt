@@ -12,7 +12,7 @@ use lib.Seq.{getD-set-same, getD-set-other}
 use borrow.Author.Tests.{le-leb, leb-true, lt-ltb, ltb-true, eqb-true, not-true}
 use Rattle.octets.specs.Split.{lt-or-le, eq-or-ne, and-left, and-right}
 use Rattle.ring.specs.Ring.{isNumber}
-use Rattle.codes.specs.Codes.{isUser}
+use Rattle.header.specs.Codes.{isUser}
 use Rattle.cut.specs.Possible.{severalPossible}
 use Rattle.map.specs.Map.{fullMap}
 use Rattle.state.specs.declared.Address.{Address}

@@ -1,0 +1,34 @@
+-- The pieces of a message cut one after the other into the same buffer.
+use Prim.Native.Nat.{ℕ, zero, suc, _+_, _%_, _^_}
+use mathlib.Core.List.{List}
+use lib.ListN.{length}
+use Rattle.header.specs.declared.Given.{Given}
+use Rattle.cut.specs.declared.cutter.Cutting.{Cutting}
+use Rattle.cut.specs.Cutter.{cutterAnswer, cutterBuffer, cuttingNumber, cuttingLength}
+
+-- The header values of the first sender's message with this number.
+abbrev pub givenOf : ℕ → Given
+givenOf number = record {
+  field = record { 0 = 1 };
+  node = record { 0 = 1 };
+  da = 0;
+  version = record { 0 = 1 };
+  number = record { 0 = number };
+  mctl = 0;
+  tcd = 1;
+  mode = 0;
+  pri = 0;
+}
+
+-- What the buffer holds once the pieces 1 to c are cut.
+unfoldable pub cutsBuffer : Given → List ℕ → ℕ → List ℕ → ℕ → List ℕ
+cutsBuffer g m u b zero = b
+cutsBuffer g m u b (suc c) = cutterBuffer g m u (suc c) (cutsBuffer g m u b c)
+
+abbrev pub cutSum : ℕ → Cutting → ℕ
+cutSum sum a = (sum + (cuttingNumber a + cuttingLength a)) % 2 ^ 64
+
+-- The sum of what was answered for them.
+unfoldable pub cutsSum : Given → List ℕ → ℕ → List ℕ → ℕ → ℕ
+cutsSum g m u b zero = 0
+cutsSum g m u b (suc c) = cutSum (cutsSum g m u b c) (cutterAnswer g m u (suc c) (length (cutsBuffer g m u b c)))

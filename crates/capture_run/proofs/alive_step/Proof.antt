@@ -1,0 +1,16 @@
+-- The call on the contents, and its line. Assumes nothing.
+use borrow.Author.Needs.{needs}
+use Rattle.capture_run.proofs.alive_step.Statement.{statement}
+use Rattle.capture_run.proofs.alive_step.Tie as tie
+
+alive-requires : tie.Need-alive-requires
+alive-requires c κs = search needs
+
+call-number-requires : tie.Need-call-number-requires
+call-number-requires c κs = search needs
+
+returns : tie.Need-returns
+returns c = simp (c .call-number .ensures, c .before .before .alive .ensures)
+
+pub alive-step-spec : {M : Type 1} → statement M
+alive-step-spec = tie.close (tie.spec alive-requires call-number-requires returns)

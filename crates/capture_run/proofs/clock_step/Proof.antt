@@ -1,0 +1,20 @@
+-- The call on the contents, and its line. Assumes nothing.
+use borrow.Author.Needs.{needs}
+use Rattle.capture_run.proofs.clock_step.Statement.{statement}
+use Rattle.capture_run.proofs.clock_step.Tie as tie
+
+clock-of-requires : tie.Need-clock-of-requires
+clock-of-requires c κs = search needs
+
+clock-requires : tie.Need-clock-requires
+clock-requires c κs = search needs
+
+call-number-requires : tie.Need-call-number-requires
+call-number-requires c κs = search needs
+
+returns : tie.Need-returns
+returns c = simp (c .call-number .ensures, c .before .before .clock .ensures, c .before .before .before .clock-of .ensures)
+
+pub clock-step-spec : {M : Type 1} → statement M
+clock-step-spec =
+    tie.close (tie.spec clock-of-requires clock-requires call-number-requires returns)

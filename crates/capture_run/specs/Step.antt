@@ -1,0 +1,108 @@
+-- One field of a run: what it does to the state and the storage, and the line that it gives.
+use Prim.Native.Nat.{ℕ, _*_, min}
+use mathlib.Core.Bool.{true, false, cond}
+use mathlib.Core.List.{List}
+use lib.Dec.{eqb}
+use lib.ListN.{length}
+use Rattle.ring.specs.Check.{verdictNumber}
+use Rattle.state.specs.declared.Receiver.{Receiver}
+use Rattle.rules.specs.declared.answers.Answer.{Answer}
+use Rattle.rules.specs.declared.answers.Noted.{Noted}
+use Rattle.rules.specs.declared.answers.Outcome.{Outcome}
+use Rattle.rules.specs.declared.answers.Outcome.the-variants as outcome
+use Rattle.rules.specs.declared.answers.Started.{Started}
+use Rattle.rules.specs.declared.answers.Ticked.{Ticked}
+use Rattle.rules.specs.Admit.{outcomeNumber}
+use Rattle.rules.specs.Alive.{aliveAnswer}
+use Rattle.rules.specs.Clock.{clockAnswer}
+use Rattle.rules.specs.Message.{area, messageAnswer, messageStorage}
+use Rattle.rules.specs.Part.{partOf}
+use Rattle.rules.specs.Setup.{callNumber, setupAnswer}
+use Rattle.capture_fields.specs.declared.Kind.{Kind}
+use Rattle.capture_fields.specs.declared.Kind.the-variants as kind
+use Rattle.capture_fields.specs.declared.Next.{Next}
+use Rattle.capture_fields.specs.declared.Next.the-variants as next
+use Rattle.capture_lines.specs.declared.Line.the-variants as line
+use Rattle.capture_run.specs.declared.Step.{Step}
+use Rattle.capture_fields.specs.Field.{sizeOf, headSize, contentsOf, setupOf, clockOf}
+
+-- ---- one call
+
+-- "S answer"; "a refused setup leaves the state in use"
+abbrev pub startedStep : Receiver → Started → Step
+startedStep w a = record {
+  state = cond (eqb (callNumber (a .call)) 0) (a .state) w;
+  line = line.Setup (callNumber (a .call));
+  on = true;
+}
+
+-- "0 where nothing is delivered"
+abbrev pub printedVerdict : Outcome → ℕ
+printedVerdict (outcome.Refused k) = 0
+printedVerdict outcome.Stored = 0
+printedVerdict (outcome.Delivered v) = verdictNumber v
+
+-- "P answer verdict held length (held: pieces then held for the PDU's sender, 0 on a refusal; length of a delivery, otherwise 0)"
+abbrev pub answeredStep : Answer → List ℕ → Step
+answeredStep a delivered = record {
+  state = a .state;
+  line = line.Message (outcomeNumber (a .outcome)) (printedVerdict (a .outcome)) (a .held) (length delivered);
+  on = true;
+}
+
+-- "C answer, dropped map, dead map (both 0 on a refusal)"
+abbrev pub tickedStep : Ticked → Step
+tickedStep a = record { state = a .state; line = line.Clock (callNumber (a .call)) (a .dropped) (a .dead); on = true }
+
+-- "A answer"
+abbrev pub notedStep : Noted → Step
+notedStep a = record { state = a .state; line = line.Alive (callNumber (a .call)); on = true }
+
+-- "A bad or cut field ends the run with the line "E"."
+abbrev pub endStep : Receiver → Step
+endStep w = record { state = w; line = line.End; on = false }
+
+-- ---- one field
+
+-- What a field with these contents does.
+unfoldable pub stepOf : Receiver → List ℕ → Kind → List ℕ → Step
+stepOf w storage kind.Setup c = startedStep w (setupAnswer (setupOf c))
+stepOf w storage kind.Message c =
+    answeredStep (messageAnswer w (length storage) c) (partOf (messageAnswer w (length storage) c .place) c (messageStorage w storage c))
+stepOf w storage kind.Clock c = tickedStep (clockAnswer w (clockOf c))
+stepOf w storage kind.Alive c = notedStep (aliveAnswer w c)
+stepOf w storage kind.Bad c = endStep w
+
+-- What it leaves in the storage.
+unfoldable pub storageOf : Receiver → List ℕ → Kind → List ℕ → List ℕ
+storageOf w storage kind.Setup c = storage
+storageOf w storage kind.Message c = messageStorage w storage c
+storageOf w storage kind.Clock c = storage
+storageOf w storage kind.Alive c = storage
+storageOf w storage kind.Bad c = storage
+
+-- The field at the front of what was read: nothing more to read ends the run without a line.
+unfoldable pub turnBy : Receiver → List ℕ → List ℕ → Next → Step
+turnBy w storage s next.Nothing = record { state = w; line = line.Nothing; on = false }
+turnBy w storage s next.Cut = endStep w
+turnBy w storage s next.Bad = endStep w
+turnBy w storage s (next.Whole k n) = stepOf w storage k (contentsOf s n)
+
+unfoldable pub turnStorage : Receiver → List ℕ → List ℕ → Next → List ℕ
+turnStorage w storage s next.Nothing = storage
+turnStorage w storage s next.Cut = storage
+turnStorage w storage s next.Bad = storage
+turnStorage w storage s (next.Whole k n) = storageOf w storage k (contentsOf s n)
+
+-- ---- what is read and lent
+
+-- How many octets of contents belong to a head: none to one that is cut or bad.
+unfoldable pub wantedBy : List ℕ → Next → ℕ
+wantedBy s next.Nothing = 0
+wantedBy s next.Cut = cond (eqb (length s) headSize) (sizeOf s) 0
+wantedBy s next.Bad = 0
+wantedBy s (next.Whole k n) = 0
+
+-- "The storage is exactly 16,384 octets for each sender", as far as there is room.
+abbrev pub lentOf : ℕ → ℕ → ℕ
+lentOf count room = min (count * area) room

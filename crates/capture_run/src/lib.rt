@@ -1,0 +1,227 @@
+// One field of a run: the receiver's call on its contents, and the line that its answer gives.
+//
+// Every public function is total: octets, states and storage may be any. What a program adds is reading and writing alone.
+ghost use mathlib.Core.Path.{_≡_};
+ghost use mathlib.Core.Bool.{cond};
+ghost use lib.Dec.{eqb};
+ghost use lib.ListN.{length};
+ghost use Prim.Native.Nat.{_≤_};
+ghost use Rattle.rules.specs.Admit.{outcomeNumber};
+ghost use Rattle.rules.specs.Alive.{aliveAnswer};
+ghost use Rattle.rules.specs.Clock.{clockAnswer};
+ghost use Rattle.rules.specs.Message.{messageStorage};
+ghost use Rattle.rules.specs.Setup.{callNumber, setupAnswer};
+ghost use Rattle.capture_fields.specs.Field.{sizeOf, nextOf, setupOf, clockOf};
+ghost use Rattle.capture_run.specs.Step.{startedStep, printedVerdict, tickedStep, notedStep, endStep, stepOf, storageOf, turnBy, turnStorage, wantedBy, lentOf};
+ghost use Rattle.capture_fields.specs.declared.Kind.the-variants as kind;
+use alive::alive;
+use capture_fields::HEAD;
+use capture_fields::Kind;
+use capture_fields::Next;
+use capture_fields::clock_of;
+use capture_fields::contents;
+use capture_fields::next_field;
+use capture_fields::setup_of;
+use capture_lines::Line;
+use clock::clock;
+use octets::read2;
+use receiver::message::message;
+use receiver::part::part;
+use rules::answers::Call;
+use rules::answers::Outcome;
+use setup::setup;
+use state::Receiver;
+
+pub struct Step {
+    pub state: Receiver,
+    pub line: Line,
+    // whether the run goes on
+    pub on: bool,
+}
+
+// The field at the front of what was read.
+pub fn turn(state: Receiver, storage: &mut [u8], read: &[u8]) -> Step
+    ensures answer { λ r. ⌜ r ≡ turnBy state (now (storage .entry)) (now (read .entry)) (nextOf (now (read .entry))) ⌝ }
+    ensures stored { λ _. ⌜ now (storage .exit) ≡ turnStorage state (now (storage .entry)) (now (read .entry)) (nextOf (now (read .entry))) ⌝ }
+{
+    let next = next_field(read);
+    match next {
+        Next::Nothing => Step {
+            state,
+            line: Line::Nothing,
+            on: false,
+        },
+        Next::Cut => end(state),
+        Next::Bad => end(state),
+        Next::Whole { kind, length } => step_of(state, storage, kind, contents(read, length)),
+    }
+}
+
+fn end(state: Receiver) -> Step
+    ensures { λ r. ⌜ r ≡ endStep state ⌝ }
+{
+    Step {
+        state,
+        line: Line::End,
+        on: false,
+    }
+}
+
+// What a field of this kind with these contents does.
+pub fn step_of(state: Receiver, storage: &mut [u8], kind: Kind, contents: &[u8]) -> Step
+    ensures answer { λ r. ⌜ r ≡ stepOf state (now (storage .entry)) kind (now (contents .entry)) ⌝ }
+    ensures stored { λ _. ⌜ now (storage .exit) ≡ storageOf state (now (storage .entry)) kind (now (contents .entry)) ⌝ }
+{
+    match kind {
+        Kind::Setup => setup_step(state, contents),
+        Kind::Message => message_step(state, storage, contents),
+        Kind::Clock => clock_step(state, contents),
+        Kind::Alive => alive_step(state, contents),
+        Kind::Bad => end(state),
+    }
+}
+
+// A refused setup leaves the state in use.
+fn setup_step(state: Receiver, contents: &[u8]) -> Step
+    ensures { λ r. ⌜ r ≡ startedStep state (setupAnswer (setupOf (now (contents .entry)))) ⌝ }
+{
+    let a = setup(setup_of(contents));
+    let call = a.call;
+    let answer = call_number(call);
+    let line = Line::Setup { answer };
+    if answer == 0 {
+        let next = a.state;
+        return Step {
+            state: next,
+            line,
+            on: true,
+        };
+    }
+    Step {
+        state,
+        line,
+        on: true,
+    }
+}
+
+fn message_step(state: Receiver, storage: &mut [u8], contents: &[u8]) -> Step
+    ensures answer { λ r. ⌜ r ≡ stepOf state (now (storage .entry)) kind.Message (now (contents .entry)) ⌝ }
+    ensures stored { λ _. ⌜ now (storage .exit) ≡ messageStorage state (now (storage .entry)) (now (contents .entry)) ⌝ }
+{
+    let a = message(state, storage, contents);
+    let outcome = a.outcome;
+    let place = a.place;
+    let next = a.state;
+    let delivered = part(place, contents, storage);
+    let line = Line::Message {
+        answer: outcome_number(outcome),
+        verdict: printed_verdict(outcome),
+        held: a.held,
+        length: delivered.len(),
+    };
+    Step {
+        state: next,
+        line,
+        on: true,
+    }
+}
+
+fn clock_step(state: Receiver, contents: &[u8]) -> Step
+    ensures { λ r. ⌜ r ≡ tickedStep (clockAnswer state (clockOf (now (contents .entry)))) ⌝ }
+{
+    let a = clock(state, clock_of(contents));
+    let call = a.call;
+    let next = a.state;
+    let line = Line::Clock {
+        answer: call_number(call),
+        dropped: a.dropped,
+        dead: a.dead,
+    };
+    Step {
+        state: next,
+        line,
+        on: true,
+    }
+}
+
+fn alive_step(state: Receiver, contents: &[u8]) -> Step
+    ensures { λ r. ⌜ r ≡ notedStep (aliveAnswer state (now (contents .entry))) ⌝ }
+{
+    let a = alive(state, contents);
+    let call = a.call;
+    let next = a.state;
+    let line = Line::Alive {
+        answer: call_number(call),
+    };
+    Step {
+        state: next,
+        line,
+        on: true,
+    }
+}
+
+// ---- 01's numbers
+
+fn call_number(c: Call) -> u8
+    ensures { λ r. ⌜ r ≡ callNumber c ⌝ }
+{
+    match c {
+        Call::Done => 0,
+        Call::Refused(number) => number,
+    }
+}
+
+fn outcome_number(o: Outcome) -> u8
+    ensures { λ r. ⌜ r ≡ outcomeNumber o ⌝ }
+{
+    match o {
+        Outcome::Refused(number) => number,
+        Outcome::Stored => 0,
+        Outcome::Delivered(_) => 1,
+    }
+}
+
+fn printed_verdict(o: Outcome) -> u8
+    ensures { λ r. ⌜ r ≡ printedVerdict o ⌝ }
+{
+    match o {
+        Outcome::Refused(_) => 0,
+        Outcome::Stored => 0,
+        Outcome::Delivered(verdict) => verdict.printed(),
+    }
+}
+
+// ---- what is read and lent
+
+// How many octets of contents are to be read behind this head.
+pub fn wanted(head: &[u8]) -> usize
+    ensures { λ r. ⌜ r ≡ wantedBy (now (head .entry)) (nextOf (now (head .entry))) ⌝ }
+    ensures { λ r. ⌜ r ≤ 65535 ⌝ }
+{
+    let next = next_field(head);
+    match next {
+        Next::Nothing => 0,
+        Next::Cut => size_behind(head),
+        Next::Bad => 0,
+        Next::Whole { kind: _, length: _ } => 0,
+    }
+}
+
+fn size_behind(head: &[u8]) -> usize
+    ensures { λ r. ⌜ r ≡ cond (eqb (length (now (head .entry))) 3) (sizeOf (now (head .entry))) 0 ⌝ }
+    ensures { λ r. ⌜ r ≤ 65535 ⌝ }
+{
+    if head.len() == HEAD {
+        read2(head, 1) as usize
+    } else {
+        0
+    }
+}
+
+// How many octets of a storage of this length are lent to a message call.
+pub fn lent(count: u8, room: usize) -> usize
+    ensures { λ r. ⌜ r ≡ lentOf count room ⌝ }
+{
+    let all = (count as usize) * Receiver::AREA;
+    if all < room { all } else { room }
+}

@@ -1,4 +1,0 @@
-pub mod Cutter
-pub mod CutterLaws
-pub mod ReadLaws
-pub mod Edges

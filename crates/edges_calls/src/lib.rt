@@ -1,0 +1,126 @@
+// The calls of docs/EDGES.md that know no state, each with its lines: the cutter, the part that is handed over, the next field.
+//
+// No contract can say what is written, so these functions have none: they answer nothing, and nothing is lent to them to write.
+use capture_fields::Kind;
+use capture_fields::Next;
+use capture_fields::next_field;
+use cut::cutter::cutter;
+use edges_lines::line;
+use edges_lines::octets_line;
+use edges_lines::sum;
+use header::Given;
+use header::codes::DataField;
+use header::codes::Node;
+use octets::from;
+use octets::read1;
+use octets::read2;
+use octets::read4;
+use octets::read8;
+use receiver::part::part;
+use ring::Number;
+use ring::Version;
+use rules::answers::Where;
+
+// ---- the cutter
+
+// The buffer has as many octets as the call says, "each of them 170 before the call".
+pub fn cut_call(contents: &[u8]) {
+    let mut buffer = [170u8; 1_473];
+    let room = (read2(contents, 0) % 1_474) as usize;
+    cut_into(&mut buffer[0..room], contents);
+}
+
+fn cut_into(buffer: &mut [u8], contents: &[u8]) {
+    let cutting = cutter(
+        given_in(contents),
+        from(contents, 29),
+        read2(contents, 2),
+        read1(contents, 4),
+        buffer,
+    );
+    cutting_lines(cutting.number(), cutting.length(), buffer);
+}
+
+fn given_in(contents: &[u8]) -> Given {
+    Given {
+        field: DataField(read1(contents, 5)),
+        node: Node(read2(contents, 6)),
+        da: read4(contents, 8),
+        version: Version(read4(contents, 12)),
+        number: Number(read4(contents, 16)),
+        mctl: read4(contents, 20),
+        tcd: read2(contents, 24),
+        mode: read2(contents, 26),
+        pri: read1(contents, 28),
+    }
+}
+
+fn cutting_lines(number: u8, length: u16, buffer: &[u8]) {
+    let k = length as usize;
+    line(
+        b'K',
+        &[
+            number as u64,
+            length as u64,
+            sum(front(buffer, k)),
+            sum(from(buffer, k)),
+        ],
+    );
+    if number == 0 {
+        octets_line(b'k', front(buffer, 64));
+    }
+}
+
+// ---- part
+
+pub fn part_call<'a>(storage: &'a [u8], contents: &'a [u8]) {
+    let lent = read4(contents, 17) as usize;
+    let handed = part(where_in(contents), from(contents, 21), front(storage, lent));
+    line(b'R', &[handed.len() as u64, sum(handed)]);
+}
+
+fn where_in(contents: &[u8]) -> Where {
+    let kind = read1(contents, 0);
+    match kind {
+        0 => Where::Nothing,
+        1 => Where::Packet,
+        _ => Where::Storage {
+            start: read8(contents, 1) as usize,
+            length: read8(contents, 9) as usize,
+        },
+    }
+}
+
+// The first k octets of a slice, all of them where it has no more.
+fn front(s: &[u8], k: usize) -> &[u8] {
+    if k < s.len() { &s[0..k] } else { s }
+}
+
+// ---- the next field
+
+pub fn field_call(octets: &[u8]) {
+    let next = next_field(octets);
+    match next {
+        Next::Nothing => line(b'F', &[0, 0, 0, 7]),
+        Next::Cut => line(b'F', &[1, 0, 0, 7]),
+        Next::Bad => line(b'F', &[2, 0, 0, 7]),
+        Next::Whole { kind, length } => whole_line(kind, capture_fields::contents(octets, length)),
+    }
+}
+
+fn whole_line(kind: Kind, contents: &[u8]) {
+    line(
+        b'F',
+        &[3, tag_of(kind), contents.len() as u64, sum(contents)],
+    );
+}
+
+fn tag_of(kind: Kind) -> u64 {
+    match kind {
+        Kind::Setup => 1,
+        Kind::Message => 2,
+        Kind::Clock => 3,
+        Kind::Alive => 4,
+        Kind::Bad => 0,
+    }
+}

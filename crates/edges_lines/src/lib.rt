@@ -1,0 +1,63 @@
+// What the programs of docs/EDGES.md print: lines of decimal numbers, and the sum that stands for many octets.
+//
+// No contract can say what is written, so a function that only prints has none: it answers nothing, and nothing is lent to it to write.
+ghost use Prim.Native.Nat.{_%_};
+ghost use mathlib.Core.Path.{_≡_};
+ghost use Rattle.edges_lines.specs.Sum.{step, sumOf};
+
+pub mod answers;
+pub mod record;
+
+// "the title stands there as on this page"
+pub fn title(octets: &[u8]) {
+    io::write_all(1, b"# ");
+    io::write_all(1, octets);
+    io::write_all(1, b"\n");
+}
+
+// A letter and numbers, one blank between.
+pub fn line(letter: u8, numbers: &[u64]) {
+    io::write_all(1, &[letter]);
+    let mut i = 0;
+    while i < numbers.len() {
+        io::write_all(1, b" ");
+        io::print_decimal(1, numbers[i]);
+        i += 1;
+    }
+    io::write_all(1, b"\n");
+}
+
+// The same, of octets.
+pub fn octets_line(letter: u8, octets: &[u8]) {
+    io::write_all(1, &[letter]);
+    let mut i = 0;
+    while i < octets.len() {
+        octet_word(octets[i]);
+        i += 1;
+    }
+    io::write_all(1, b"\n");
+}
+
+fn octet_word(octet: u8) {
+    io::write_all(1, b" ");
+    io::print_decimal(1, octet as u64);
+}
+
+pub fn sum(octets: &[u8]) -> u64
+    ensures { λ r. ⌜ r ≡ sumOf (now (octets .entry)) ⌝ }
+{
+    let mut s = 7;
+    let mut i = 0;
+    while i < octets.len() {
+        s = with_octet(s, octets[i]);
+        i += 1;
+    }
+    s
+}
+
+// A sum is below 2^32, so the first remainder alters nothing; it keeps the product within 64 bits.
+fn with_octet(s: u64, octet: u8) -> u64
+    ensures { λ r. ⌜ r ≡ step (s % 4294967296) octet ⌝ }
+{
+    (31 * (s % 4_294_967_296) + octet as u64) % 4_294_967_296
+}
