@@ -3,16 +3,16 @@
 //
 // It is total: any state and any octets may come, and each meets its number.
 ghost use mathlib.Core.Path.{_≡_};
-ghost use Rattle.rules.specs.Alive.{aliveHeadWithin, aliveWithin, signalRows, heardAs, heardBy, aliveAnswer};
-ghost use Rattle.rules.specs.First.{first};
+ghost use Rattle.rules.specs.calls.Alive.{aliveHeadWithin, aliveWithin, signalRows, heardAs, heardBy, aliveAnswer};
+ghost use Rattle.rules.specs.calls.First.{first};
+use answers::Call;
+use answers::Noted;
 use header::Head;
 use header::codes::code_of;
 use header::codes::is_mode;
 use header::codes::is_pri;
 use header::is_fixed;
 use header::read_head;
-use rules::answers::Call;
-use rules::answers::Noted;
 use signal::Body;
 use signal::SIZE;
 use signal::group;

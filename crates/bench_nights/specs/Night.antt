@@ -5,14 +5,14 @@ use lib.ListN.{length, take, drop, set, replicate}
 use Rattle.ring.specs.Check.{verdictNumber}
 use Rattle.state.specs.declared.Address.{Address}
 use Rattle.state.specs.State.{noAddress}
-use Rattle.rules.specs.declared.answers.Answer.{Answer}
-use Rattle.rules.specs.declared.answers.Outcome.{Outcome}
-use Rattle.rules.specs.declared.answers.Outcome.the-variants.{Refused, Stored, Delivered}
-use Rattle.rules.specs.declared.answers.Setup.{Setup}
-use Rattle.rules.specs.Message.{messageAnswer, messageStorage}
-use Rattle.rules.specs.Part.{partOf}
-use Rattle.rules.specs.Past.{World, Event, message, alive, clock, question, step}
-use Rattle.rules.specs.Setup.{setupAnswer}
+use Rattle.answers.specs.declared.Answer.{Answer}
+use Rattle.answers.specs.declared.Outcome.{Outcome}
+use Rattle.answers.specs.declared.Outcome.the-variants.{Refused, Stored, Delivered}
+use Rattle.answers.specs.declared.Setup.{Setup}
+use Rattle.rules.specs.calls.Message.{messageAnswer, messageStorage}
+use Rattle.rules.specs.calls.Part.{partOf}
+use Rattle.rules.specs.pasts.Past.{World, Event, message, alive, clock, question, step}
+use Rattle.rules.specs.calls.Setup.{setupAnswer}
 
 -- ---- what it starts with
 

@@ -7,7 +7,7 @@ use native.Mathlib.Omega.{arith}
 use lib.ListN.{length, take, drop, getD, length-take, length-drop, drop-of-length-le}
 use lib.Seq.{drop-cons, drop-drop}
 use Rattle.octets.specs.Run.{run}
-use Rattle.rules.specs.Past.{World, Event, message, step, after}
+use Rattle.rules.specs.pasts.Past.{World, Event, message, step, after}
 use Rattle.bench_nights.specs.Night.{packetsBy, sumBy, nightSum}
 
 -- Behind what was taken stands what is dropped, also where fewer octets were there.

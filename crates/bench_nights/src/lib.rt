@@ -4,9 +4,11 @@
 // What is answered is one number made of all answers, so that none can be left out and two programs are quickly compared.
 ghost use mathlib.Core.Path.{_≡_};
 ghost use Rattle.octets.specs.Run.{run};
-ghost use Rattle.rules.specs.Past.{after};
+ghost use Rattle.rules.specs.pasts.Past.{after};
 ghost use Rattle.bench_nights.specs.Night.{nodesTo, boardOf, begun, packetsBy, told as toldOf, summed, nightSum};
 ghost use Rattle.bench_nights.specs.Cuts.{givenOf, cutSum, cutsSum, cutsBuffer};
+use answers::Outcome;
+use answers::Setup;
 use cut::cutter::Cutting;
 use cut::cutter::cutter;
 use header::Given;
@@ -17,8 +19,6 @@ use receiver::message::message;
 use receiver::part::part;
 use ring::Number;
 use ring::Version;
-use rules::answers::Outcome;
-use rules::answers::Setup;
 use setup::setup;
 use state::Address;
 use std::num::wrapping_add_u64;

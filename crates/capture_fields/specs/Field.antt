@@ -7,7 +7,7 @@ use lib.ListN.{length, set, replicate}
 use Rattle.octets.specs.Number.{number}
 use Rattle.octets.specs.Run.{run}
 use Rattle.state.specs.declared.Address.{Address}
-use Rattle.rules.specs.declared.answers.Setup.{Setup}
+use Rattle.answers.specs.declared.Setup.{Setup}
 use Rattle.state.specs.State.{noAddress}
 use Rattle.capture_fields.specs.declared.Kind.{Kind}
 use Rattle.capture_fields.specs.declared.Kind.the-variants as kind

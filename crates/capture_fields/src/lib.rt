@@ -4,6 +4,7 @@
 ghost use mathlib.Core.Path.{_≡_};
 ghost use Prim.Native.Nat.{_≤_};
 ghost use Rattle.capture_fields.specs.Field.{kindOf, isBad, nextOf, contentsOf, setupOf, addressIn, sendersOf, clockOf};
+use answers::Setup;
 use header::codes::DataField;
 use header::codes::Node;
 use octets::from;
@@ -11,7 +12,6 @@ use octets::read1;
 use octets::read2;
 use octets::read4;
 use octets::read8;
-use rules::answers::Setup;
 use state::Address;
 
 // The octets in front of a field's contents: its tag and its length.

@@ -6,18 +6,18 @@ use lib.Dec.{eqb}
 use lib.ListN.{length}
 use Rattle.ring.specs.Check.{verdictNumber}
 use Rattle.state.specs.declared.Receiver.{Receiver}
-use Rattle.rules.specs.declared.answers.Answer.{Answer}
-use Rattle.rules.specs.declared.answers.Noted.{Noted}
-use Rattle.rules.specs.declared.answers.Outcome.{Outcome}
-use Rattle.rules.specs.declared.answers.Outcome.the-variants as outcome
-use Rattle.rules.specs.declared.answers.Started.{Started}
-use Rattle.rules.specs.declared.answers.Ticked.{Ticked}
-use Rattle.rules.specs.Admit.{outcomeNumber}
-use Rattle.rules.specs.Alive.{aliveAnswer}
-use Rattle.rules.specs.Clock.{clockAnswer}
-use Rattle.rules.specs.Message.{area, messageAnswer, messageStorage}
-use Rattle.rules.specs.Part.{partOf}
-use Rattle.rules.specs.Setup.{callNumber, setupAnswer}
+use Rattle.answers.specs.declared.Answer.{Answer}
+use Rattle.answers.specs.declared.Noted.{Noted}
+use Rattle.answers.specs.declared.Outcome.{Outcome}
+use Rattle.answers.specs.declared.Outcome.the-variants as outcome
+use Rattle.answers.specs.declared.Started.{Started}
+use Rattle.answers.specs.declared.Ticked.{Ticked}
+use Rattle.rules.specs.calls.Admit.{outcomeNumber}
+use Rattle.rules.specs.calls.Alive.{aliveAnswer}
+use Rattle.rules.specs.calls.Clock.{clockAnswer}
+use Rattle.rules.specs.calls.Message.{area, messageAnswer, messageStorage}
+use Rattle.rules.specs.calls.Part.{partOf}
+use Rattle.rules.specs.calls.Setup.{callNumber, setupAnswer}
 use Rattle.capture_fields.specs.declared.Kind.{Kind}
 use Rattle.capture_fields.specs.declared.Kind.the-variants as kind
 use Rattle.capture_fields.specs.declared.Next.{Next}

@@ -2,10 +2,10 @@
 ghost use mathlib.Core.Path.{_≡_};
 ghost use mathlib.Core.Bool.{cond};
 ghost use Prim.Native.Nat.{_+_, _-_, _*_, _^_, _<_};
-ghost use Rattle.rules.specs.Clock.{drops as dropsAt, dies as diesAt, aged as agedAt, clockAnswer};
+ghost use Rattle.rules.specs.calls.Clock.{drops as dropsAt, dies as diesAt, aged as agedAt, clockAnswer};
 ghost use Rattle.state.specs.State.{noMessage, noHeard};
-use rules::answers::Call;
-use rules::answers::Ticked;
+use answers::Call;
+use answers::Ticked;
 use state::Address;
 use state::Heard;
 use state::Message;

@@ -3,13 +3,15 @@
 // What is done with an answer stands apart from the call: a function that returns a state is the faster to prove the less it does.
 use crate::damage::with_sender;
 use crate::damage::with_settings;
+use answers::Answer;
+use answers::Setup;
 use edges_calls::cut_call;
 use edges_calls::field_call;
 use edges_calls::part_call;
-use edges_lines::answers::call_line;
-use edges_lines::answers::clock_line;
-use edges_lines::answers::message_line;
-use edges_lines::answers::question_line;
+use edges_lines::calls::call_line;
+use edges_lines::calls::clock_line;
+use edges_lines::calls::message_line;
+use edges_lines::calls::question_line;
 use edges_lines::record::state_lines;
 use edges_lines::sum;
 use edges_lines::title;
@@ -23,8 +25,6 @@ use octets::read8;
 use question::question;
 use receiver::message::message;
 use receiver::part::part;
-use rules::answers::Answer;
-use rules::answers::Setup;
 use setup::setup;
 use state::Address;
 use state::Receiver;

@@ -1,6 +1,7 @@
 // The calls of docs/EDGES.md that know no state, each with its lines: the cutter, the part that is handed over, the next field.
 //
 // No contract can say what is written, so these functions have none: they answer nothing, and nothing is lent to them to write.
+use answers::Where;
 use capture_fields::Kind;
 use capture_fields::Next;
 use capture_fields::next_field;
@@ -19,7 +20,6 @@ use octets::read8;
 use receiver::part::part;
 use ring::Number;
 use ring::Version;
-use rules::answers::Where;
 
 // ---- the cutter
 

@@ -5,7 +5,7 @@ ghost use Prim.Native.Nat.{_%_};
 ghost use mathlib.Core.Path.{_≡_};
 ghost use Rattle.edges_lines.specs.Sum.{step, sumOf};
 
-pub mod answers;
+pub mod calls;
 pub mod record;
 
 // "the title stands there as on this page"

@@ -24,12 +24,12 @@ use Rattle.cut.specs.Pieces.{leastUnit, mostUnit, pieceLength}
 use Rattle.cut.specs.Possible.{isUnit}
 use Rattle.cut.specs.ReadLaws.{Words, cuts-within, cuts-room}
 use Rattle.state.specs.declared.Sender.{Sender}
-use Rattle.rules.specs.declared.answers.Outcome.the-variants as outcome
-use Rattle.rules.specs.CutPieces.{sentBy, cuts-piece}
-use Rattle.rules.specs.Delivery.{Sent, PieceOf, Came, May, Between, OnlyPieces, verdictFor}
-use Rattle.rules.specs.Past.{World, Event, message, step, after}
-use Rattle.rules.specs.PastLaws.{start-sender}
-use Rattle.rules.specs.PieceLaws.{Cuttable, piece-number}
+use Rattle.answers.specs.declared.Outcome.the-variants as outcome
+use Rattle.rules.specs.promised.CutPiecesLaws.{sentBy, cuts-piece}
+use Rattle.rules.specs.promised.Delivery.{Sent, PieceOf, Came, May, Between, OnlyPieces, verdictFor}
+use Rattle.rules.specs.pasts.Past.{World, Event, message, step, after}
+use Rattle.rules.specs.pasts.PastLaws.{start-sender}
+use Rattle.rules.specs.promised.PieceLaws.{Cuttable, piece-number}
 use Rattle.promises.specs.CourseLaws.{course-start}
 use Rattle.promises.specs.Demands.{CutterWrote, ComesBack}
 use Rattle.promises.specs.DemandsLaws.{delivers}

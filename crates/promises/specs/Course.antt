@@ -9,20 +9,20 @@ use Rattle.header.specs.declared.Given.{Given}
 use Rattle.cut.specs.declared.cutter.Cutting.{Cutting}
 use Rattle.cut.specs.Cutter.{cutterAnswer, cutterBuffer}
 use Rattle.state.specs.declared.Receiver.{Receiver}
-use Rattle.rules.specs.declared.answers.Answer.{Answer}
-use Rattle.rules.specs.declared.answers.Missing.{Missing}
-use Rattle.rules.specs.declared.answers.Noted.{Noted}
-use Rattle.rules.specs.declared.answers.Setup.{Setup}
-use Rattle.rules.specs.declared.answers.Started.{Started}
-use Rattle.rules.specs.declared.answers.Ticked.{Ticked}
-use Rattle.rules.specs.declared.answers.Where.{Where}
-use Rattle.rules.specs.Alive.{aliveAnswer}
-use Rattle.rules.specs.Clock.{clockAnswer}
-use Rattle.rules.specs.Message.{area, messageAnswer, messageStorage}
-use Rattle.rules.specs.Part.{partOf}
-use Rattle.rules.specs.Past.{World, Event, message, alive, clock, question, Said, Answers}
-use Rattle.rules.specs.Question.{questionAnswer}
-use Rattle.rules.specs.Setup.{setupAnswer}
+use Rattle.answers.specs.declared.Answer.{Answer}
+use Rattle.answers.specs.declared.Missing.{Missing}
+use Rattle.answers.specs.declared.Noted.{Noted}
+use Rattle.answers.specs.declared.Setup.{Setup}
+use Rattle.answers.specs.declared.Started.{Started}
+use Rattle.answers.specs.declared.Ticked.{Ticked}
+use Rattle.answers.specs.declared.Where.{Where}
+use Rattle.rules.specs.calls.Alive.{aliveAnswer}
+use Rattle.rules.specs.calls.Clock.{clockAnswer}
+use Rattle.rules.specs.calls.Message.{area, messageAnswer, messageStorage}
+use Rattle.rules.specs.calls.Part.{partOf}
+use Rattle.rules.specs.pasts.Past.{World, Event, message, alive, clock, question, Said, Answers}
+use Rattle.rules.specs.calls.Question.{questionAnswer}
+use Rattle.rules.specs.calls.Setup.{setupAnswer}
 
 abbrev pub world : Receiver → List ℕ → World
 world state storage = record { state = state; storage = storage }

@@ -7,14 +7,14 @@ use Rattle.octets.specs.Answer.{one-answer}
 use Rattle.header.specs.declared.Given.{Given}
 use Rattle.cut.specs.declared.cutter.Cutting.{Cutting}
 use Rattle.state.specs.declared.Receiver.{Receiver}
-use Rattle.rules.specs.declared.answers.Answer.{Answer}
-use Rattle.rules.specs.declared.answers.Noted.{Noted}
-use Rattle.rules.specs.declared.answers.Setup.{Setup}
-use Rattle.rules.specs.declared.answers.Started.{Started}
-use Rattle.rules.specs.declared.answers.Ticked.{Ticked}
-use Rattle.rules.specs.Part.{partOf}
-use Rattle.rules.specs.Past.{World, Event, message, alive, clock, question, step, after, Said, said, Answers, answers, Start}
-use Rattle.rules.specs.PastLaws.{Sound, past-sound}
+use Rattle.answers.specs.declared.Answer.{Answer}
+use Rattle.answers.specs.declared.Noted.{Noted}
+use Rattle.answers.specs.declared.Setup.{Setup}
+use Rattle.answers.specs.declared.Started.{Started}
+use Rattle.answers.specs.declared.Ticked.{Ticked}
+use Rattle.rules.specs.calls.Part.{partOf}
+use Rattle.rules.specs.pasts.Past.{World, Event, message, alive, clock, question, step, after, Said, said, Answers, answers, Start}
+use Rattle.rules.specs.pasts.PastLaws.{Sound, past-sound}
 use Rattle.promises.specs.Course.{world, SetupMeets, MessageMeets, CutterMeets, Meets, Course, Leads, messagesOf}
 
 -- ---- one call

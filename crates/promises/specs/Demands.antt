@@ -21,24 +21,24 @@ use Rattle.cut.specs.ReadLaws.{Words}
 use Rattle.state.specs.Limits.{addressAt}
 use Rattle.state.specs.State.{noLast, senderAt, emptyReceiver}
 use Rattle.state.specs.Table.{source}
-use Rattle.rules.specs.declared.answers.Call.the-variants as call
-use Rattle.rules.specs.declared.answers.Missing.the-variants as missing
-use Rattle.rules.specs.declared.answers.Outcome.the-variants as outcome
-use Rattle.rules.specs.declared.answers.Setup.{Setup}
-use Rattle.rules.specs.declared.answers.Started.{Started}
-use Rattle.rules.specs.Accepted.{acceptedWith, acceptedIn}
-use Rattle.rules.specs.Alive.{aliveRows}
-use Rattle.rules.specs.AlivePast.{AliveBy}
-use Rattle.rules.specs.Clock.{clockRows}
-use Rattle.rules.specs.CutPieces.{sentBy}
-use Rattle.rules.specs.Delivery.{Sent, Numbered, PieceOf, May, Between, OnlyPieces, verdictFor, OneApplies, Arrives, Once}
-use Rattle.rules.specs.First.{Row, row}
-use Rattle.rules.specs.FirstLaws as rows
-use Rattle.rules.specs.Join.{Joined}
-use Rattle.rules.specs.Message.{messageRows}
-use Rattle.rules.specs.Past.{World, Event, message, alive, clock, question, Said, Answers}
-use Rattle.rules.specs.Question.{questionRows}
-use Rattle.rules.specs.Setup.{setupWithin}
+use Rattle.answers.specs.declared.Call.the-variants as call
+use Rattle.answers.specs.declared.Missing.the-variants as missing
+use Rattle.answers.specs.declared.Outcome.the-variants as outcome
+use Rattle.answers.specs.declared.Setup.{Setup}
+use Rattle.answers.specs.declared.Started.{Started}
+use Rattle.rules.specs.promised.Accepted.{acceptedWith, acceptedIn}
+use Rattle.rules.specs.calls.Alive.{aliveRows}
+use Rattle.rules.specs.promised.AlivePast.{AliveBy}
+use Rattle.rules.specs.calls.Clock.{clockRows}
+use Rattle.rules.specs.promised.CutPiecesLaws.{sentBy}
+use Rattle.rules.specs.promised.Delivery.{Sent, Numbered, PieceOf, May, Between, OnlyPieces, verdictFor, OneApplies, Arrives, Once}
+use Rattle.rules.specs.calls.First.{Row, row}
+use Rattle.rules.specs.calls.FirstLaws as rows
+use Rattle.rules.specs.promised.Join.{Joined}
+use Rattle.rules.specs.calls.Message.{messageRows}
+use Rattle.rules.specs.pasts.Past.{World, Event, message, alive, clock, question, Said, Answers}
+use Rattle.rules.specs.calls.Question.{questionRows}
+use Rattle.rules.specs.calls.Setup.{setupWithin}
 use Rattle.promises.specs.Course.{Meets, Course, SetupMeets, CutterMeets}
 
 -- ---- demand 1

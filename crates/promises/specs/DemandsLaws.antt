@@ -19,31 +19,31 @@ use Rattle.state.specs.declared.Address.{Address}
 use Rattle.state.specs.Limits.{addressAt, valid}
 use Rattle.state.specs.State.{senderAt, emptyReceiver}
 use Rattle.state.specs.Table.{source}
-use Rattle.rules.specs.declared.answers.Answer.{Answer}
-use Rattle.rules.specs.declared.answers.Call.the-variants as call
-use Rattle.rules.specs.declared.answers.Noted.{Noted}
-use Rattle.rules.specs.declared.answers.Outcome.{Outcome}
-use Rattle.rules.specs.declared.answers.Outcome.the-variants as outcome
-use Rattle.rules.specs.declared.answers.Started.{Started}
-use Rattle.rules.specs.declared.answers.Ticked.{Ticked}
-use Rattle.rules.specs.Accepted.{acceptedWith, acceptedIn}
-use Rattle.rules.specs.AlivePast.{AliveBy}
-use Rattle.rules.specs.AlivePastLaws.{alive-after, after-alive}
-use Rattle.rules.specs.Admit.{senderRows}
-use Rattle.rules.specs.Alive.{aliveRows}
-use Rattle.rules.specs.CameLaws.{one-applies}
-use Rattle.rules.specs.Clock.{notTicked}
-use Rattle.rules.specs.Delivery.{May, Between, OnlyPieces, verdictFor, Arrives, Once}
-use Rattle.rules.specs.DeliveryLaws.{arrives-only}
-use Rattle.rules.specs.Exactly.{message-refuses, message-given, alive-refuses, alive-given, clock-refuses, clock-given, question-refuses, question-given, setup-refuses, setup-given}
-use Rattle.rules.specs.First.{Row, row}
-use Rattle.rules.specs.FirstLaws.{Given, above, given-above}
-use Rattle.rules.specs.Join.{Joined}
-use Rattle.rules.specs.Message.{area, messageRows, refused}
-use Rattle.rules.specs.Past.{World, Event, message, alive, clock, question, step, after, answerTo, partTo, Said, said, Answers}
-use Rattle.rules.specs.PastLaws.{Sound}
-use Rattle.rules.specs.SafeLaws.{safe}
-use Rattle.rules.specs.Setup.{setupWithin}
+use Rattle.answers.specs.declared.Answer.{Answer}
+use Rattle.answers.specs.declared.Call.the-variants as call
+use Rattle.answers.specs.declared.Noted.{Noted}
+use Rattle.answers.specs.declared.Outcome.{Outcome}
+use Rattle.answers.specs.declared.Outcome.the-variants as outcome
+use Rattle.answers.specs.declared.Started.{Started}
+use Rattle.answers.specs.declared.Ticked.{Ticked}
+use Rattle.rules.specs.promised.Accepted.{acceptedWith, acceptedIn}
+use Rattle.rules.specs.promised.AlivePast.{AliveBy}
+use Rattle.rules.specs.promised.AlivePastLaws.{alive-after, after-alive}
+use Rattle.rules.specs.calls.Admit.{senderRows}
+use Rattle.rules.specs.calls.Alive.{aliveRows}
+use Rattle.rules.specs.promised.CameLaws.{one-applies}
+use Rattle.rules.specs.calls.Clock.{notTicked}
+use Rattle.rules.specs.promised.Delivery.{May, Between, OnlyPieces, verdictFor, Arrives, Once}
+use Rattle.rules.specs.promised.DeliveryLaws.{arrives-only}
+use Rattle.rules.specs.calls.ExactlyLaws.{message-refuses, message-given, alive-refuses, alive-given, clock-refuses, clock-given, question-refuses, question-given, setup-refuses, setup-given}
+use Rattle.rules.specs.calls.First.{Row, row}
+use Rattle.rules.specs.calls.FirstLaws.{Given, above, given-above}
+use Rattle.rules.specs.promised.Join.{Joined}
+use Rattle.rules.specs.calls.Message.{area, messageRows, refused}
+use Rattle.rules.specs.pasts.Past.{World, Event, message, alive, clock, question, step, after, answerTo, partTo, Said, said, Answers}
+use Rattle.rules.specs.pasts.PastLaws.{Sound}
+use Rattle.rules.specs.promised.SafeLaws.{safe}
+use Rattle.rules.specs.calls.Setup.{setupWithin}
 use Rattle.promises.specs.CourseLaws.{one-call, one-course, next-call, course-start, course-sound}
 use Rattle.promises.specs.Demands.{RefusedWith, rowsOf, Refuses, CallsRefuse, SetupRefuses, CutterRefuses, NeverNine, WhoIsAlive, DeliveredOnce, Safety}
 

@@ -1,9 +1,9 @@
 // The question: of the first sender in table order with an open message, which piece is its lowest missing one?
 ghost use mathlib.Core.Path.{_≡_};
-ghost use Rattle.rules.specs.Question.{questionAnswer};
-ghost use Rattle.rules.specs.QuestionLaws.{piecesOf};
+ghost use Rattle.rules.specs.calls.Question.{questionAnswer};
+ghost use Rattle.rules.specs.calls.QuestionLaws.{piecesOf};
+use answers::Missing;
 use map::holds;
-use rules::answers::Missing;
 use state::Address;
 use state::Receiver;
 use state::Sender;

@@ -1,9 +1,9 @@
 // The delivered octets, as a returned part of one of two lent slices. Nothing is copied.
 ghost use mathlib.Core.Path.{_≡_};
-ghost use Rattle.rules.specs.Part.{behindHeader, storedPart, partOf};
+ghost use Rattle.rules.specs.calls.Part.{behindHeader, storedPart, partOf};
+use answers::Where;
 use header::SIZE;
 use octets::from;
-use rules::answers::Where;
 
 // A message of one piece: the packet behind its header.
 pub fn behind_header(packet: &[u8]) -> &[u8]

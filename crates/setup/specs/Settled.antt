@@ -7,8 +7,8 @@ use mathlib.Core.List.{List}
 use native.Mathlib.Omega.{arith}
 use lib.Dec.{eqb}
 use lib.ListN.{replicate}
-use Rattle.rules.specs.declared.answers.Setup.{Setup}
-use Rattle.rules.specs.Setup.{newSenders, setupState}
+use Rattle.answers.specs.declared.Setup.{Setup}
+use Rattle.rules.specs.calls.Setup.{newSenders, setupState}
 use Rattle.state.specs.declared.Address.{Address}
 use Rattle.state.specs.declared.Receiver.{Receiver}
 use Rattle.state.specs.State.{noSender, emptyReceiver}

@@ -2,12 +2,12 @@
 ghost use mathlib.Core.Path.{_≡_};
 ghost use mathlib.Core.Bool.{true, cond};
 ghost use Prim.Native.Nat.{_≤_};
-ghost use Rattle.rules.specs.Setup.{setupWithin, setupState, setupAnswer};
+ghost use Rattle.rules.specs.calls.Setup.{setupWithin, setupState, setupAnswer};
 ghost use Rattle.setup.specs.Settled.{settled as settledBy};
 ghost use Rattle.state.specs.State.{newSender, emptyReceiver};
-use rules::answers::Call;
-use rules::answers::Setup;
-use rules::answers::Started;
+use answers::Call;
+use answers::Setup;
+use answers::Started;
 use state::Address;
 use state::Heard;
 use state::Last;

@@ -6,13 +6,13 @@ use native.Mathlib.Omega.{arith}
 use lib.ListN.{length}
 use borrow.Author.Tests.{lt-leb}
 use Rattle.state.specs.declared.Receiver.{Receiver}
-use Rattle.rules.specs.declared.answers.Answer.{Answer}
-use Rattle.rules.specs.declared.answers.Outcome.{Outcome}
-use Rattle.rules.specs.declared.answers.Outcome.the-variants.{Refused, Stored, Delivered}
-use Rattle.rules.specs.Admit.{senderRows, outcomeNumber}
-use Rattle.rules.specs.Exactly.{message-refuses, message-given}
-use Rattle.rules.specs.FirstLaws.{above, given-above}
-use Rattle.rules.specs.Message.{messageRows, refused, messageAnswer, messageStorage}
+use Rattle.answers.specs.declared.Answer.{Answer}
+use Rattle.answers.specs.declared.Outcome.{Outcome}
+use Rattle.answers.specs.declared.Outcome.the-variants.{Refused, Stored, Delivered}
+use Rattle.rules.specs.calls.Admit.{senderRows, outcomeNumber}
+use Rattle.rules.specs.calls.ExactlyLaws.{message-refuses, message-given}
+use Rattle.rules.specs.calls.FirstLaws.{above, given-above}
+use Rattle.rules.specs.calls.Message.{messageRows, refused, messageAnswer, messageStorage}
 use Rattle.tally.specs.declared.Tally.{Tally}
 use Rattle.tally.specs.Tally.{most, stopping, oneRefusal, counted, countedBy, tallied, answersAmong, refusalsAmong}
 

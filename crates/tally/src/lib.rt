@@ -5,10 +5,10 @@
 ghost use mathlib.Core.Path.{_≡_};
 ghost use Prim.Native.Nat.{_+_};
 ghost use lib.ListN.{length};
-ghost use Rattle.rules.specs.Message.{messageAnswer, messageStorage};
+ghost use Rattle.rules.specs.calls.Message.{messageAnswer, messageStorage};
 ghost use Rattle.tally.specs.Tally.{stopping, counted};
-use rules::answers::Answer;
-use rules::answers::Outcome;
+use answers::Answer;
+use answers::Outcome;
 use state::Receiver;
 
 pub struct Tally {

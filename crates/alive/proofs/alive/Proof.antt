@@ -1,7 +1,7 @@
 -- One pass over the table, the judge, and what an alive signal does. Assumes nothing.
 use denote.Ref.{now}
-use Rattle.rules.specs.AliveLaws.{signal-refused, signal-place, signal-noted}
-use Rattle.rules.specs.Message.{withSender}
+use Rattle.rules.specs.calls.AliveLaws.{signal-refused, signal-place, signal-noted}
+use Rattle.rules.specs.calls.Message.{withSender}
 use borrow.Author.Needs.{needs}
 use Rattle.alive.proofs.alive.Statement.{statement}
 use Rattle.alive.proofs.alive.Tie as tie

@@ -1,5 +1,5 @@
 -- Each test is that of the definition. Assumes nothing.
-use Rattle.rules.specs.Alive.{aliveHeadWithin}
+use Rattle.rules.specs.calls.Alive.{aliveHeadWithin}
 use borrow.Author.Needs.{needs}
 use Rattle.alive.proofs.head_within.Statement.{statement}
 use Rattle.alive.proofs.head_within.Tie as tie

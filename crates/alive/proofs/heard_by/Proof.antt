@@ -2,7 +2,7 @@
 use borrow.Author.Needs.{needs}
 use mathlib.Core.Path.{_∙_}
 use borrow.Author.Tests.{eq-eqb, ne-eqb}
-use Rattle.rules.specs.Alive.{heardBy}
+use Rattle.rules.specs.calls.Alive.{heardBy}
 use Rattle.alive.proofs.heard_by.Statement.{statement}
 use Rattle.alive.proofs.heard_by.Tie as tie
 

@@ -2,7 +2,7 @@
 use mathlib.Core.Path.{sym, ap, _∙_}
 use mathlib.Core.Bool.{not}
 use borrow.Author.Tests.{le-leb, lt-leb}
-use Rattle.rules.specs.First.{first}
+use Rattle.rules.specs.calls.First.{first}
 use borrow.Author.Needs.{needs}
 use Rattle.alive.proofs.signal_number.Statement.{statement}
 use Rattle.alive.proofs.signal_number.Tie as tie

@@ -1,5 +1,5 @@
 -- Each test is that of the definition. Assumes nothing.
-use Rattle.rules.specs.Alive.{aliveWithin}
+use Rattle.rules.specs.calls.Alive.{aliveWithin}
 use borrow.Author.Needs.{needs}
 use Rattle.alive.proofs.signal_within.Statement.{statement}
 use Rattle.alive.proofs.signal_within.Tie as tie

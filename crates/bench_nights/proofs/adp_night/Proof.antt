@@ -4,8 +4,8 @@ use mathlib.Core.Path.{_≡_, refl, ap, _∙_}
 use native.Mathlib.Omega.{arith}
 use borrow.Author.Needs.{needs}
 use lib.ListN.{length}
-use Rattle.rules.specs.Past.{World, step}
-use Rattle.rules.specs.PastLaws.{same-room}
+use Rattle.rules.specs.pasts.Past.{World, step}
+use Rattle.rules.specs.pasts.PastLaws.{same-room}
 use Rattle.bench_nights.specs.Night.{boardOf, begun, sumBy}
 use Rattle.bench_nights.specs.NightLaws.{Towards, ends-within, begins, turn, counted, reached}
 use Rattle.bench_nights.proofs.adp_night.Statement.{statement}

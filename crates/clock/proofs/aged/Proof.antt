@@ -1,5 +1,5 @@
 -- Each part is that of the definition. Assumes nothing.
-use Rattle.rules.specs.Clock.{aged}
+use Rattle.rules.specs.calls.Clock.{aged}
 use borrow.Author.Needs.{needs}
 use Rattle.clock.proofs.aged.Statement.{statement}
 use Rattle.clock.proofs.aged.Tie as tie

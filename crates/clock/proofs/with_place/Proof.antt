@@ -1,7 +1,7 @@
 -- A place that is not in the map yet is added to it. Assumes nothing.
 use mathlib.Core.Path.{sym}
 use native.Mathlib.Nat.{add-zero}
-use Rattle.rules.specs.ClockLaws.{shift-sixteen, place-fits}
+use Rattle.rules.specs.calls.ClockLaws.{shift-sixteen, place-fits}
 use borrow.Author.Needs.{needs}
 use Rattle.clock.proofs.with_place.Statement.{statement}
 use Rattle.clock.proofs.with_place.Tie as tie

@@ -5,15 +5,15 @@ use mathlib.Core.Bool.{true, false}
 use native.Mathlib.Omega.{arith}
 use borrow.Author.Count.{below-more}
 use borrow.Author.Tests.{not-true, not-false}
-use Rattle.rules.specs.declared.answers.Missing.the-variants.{NoneOpen}
+use Rattle.answers.specs.declared.Missing.the-variants.{NoneOpen}
 use Rattle.map.specs.Map.{holds}
 use Rattle.state.specs.LimitsLaws.{valid-count}
 use Rattle.state.specs.WithinLaws.{valid-sender}
 use Rattle.state.specs.TableLaws.{look-valid}
-use Rattle.rules.specs.QuestionLaws.{all-held, question-none, question-piece, question-nine}
+use Rattle.rules.specs.calls.QuestionLaws.{all-held, question-none, question-piece, question-nine}
 use Rattle.state.specs.State.{senderAt}
 use borrow.Author.Needs.{needs}
-use Rattle.rules.specs.QuestionLaws.{piecesOf, Held}
+use Rattle.rules.specs.calls.QuestionLaws.{piecesOf, Held}
 use Rattle.question.proofs.question.Statement.{statement}
 use Rattle.question.proofs.question.Tie as tie
 

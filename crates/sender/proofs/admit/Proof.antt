@@ -1,7 +1,7 @@
 -- Refused by its number, or admitted. Assumes nothing.
 use mathlib.Core.Path.{sym, _∙_}
-use Rattle.rules.specs.Admit.{notAdmitted}
-use Rattle.rules.specs.AdmitLaws.{admitted-facts, admission-yes, admission-no}
+use Rattle.rules.specs.calls.Admit.{notAdmitted}
+use Rattle.rules.specs.calls.AdmitLaws.{admitted-facts, admission-yes, admission-no}
 use borrow.Author.Needs.{needs}
 use Rattle.sender.proofs.admit.Statement.{statement}
 use Rattle.sender.proofs.admit.Tie as tie

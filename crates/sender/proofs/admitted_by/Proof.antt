@@ -2,7 +2,7 @@
 use mathlib.Core.Path.{sym, _∙_}
 use native.Mathlib.Omega.{arith}
 use lib.Count.{ones-le}
-use Rattle.rules.specs.Admit.{admitted, fills, heldAfter, senderAfter}
+use Rattle.rules.specs.calls.Admit.{admitted, fills, heldAfter, senderAfter}
 use borrow.Author.Needs.{needs}
 use Rattle.sender.proofs.admitted_by.Statement.{statement}
 use Rattle.sender.proofs.admitted_by.Tie as tie

@@ -1,7 +1,7 @@
 -- The test is that of the definition. Assumes nothing.
 use mathlib.Core.Path.{sym, ap, _∙_}
 use mathlib.Core.Bool.{Bool, not, _&&_}
-use Rattle.rules.specs.Admit.{droppedBy}
+use Rattle.rules.specs.calls.Admit.{droppedBy}
 use borrow.Author.Needs.{needs}
 use Rattle.sender.proofs.dropped_by.Statement.{statement}
 use Rattle.sender.proofs.dropped_by.Tie as tie

@@ -1,5 +1,5 @@
 -- Each return is the number of the first test that holds. Assumes nothing.
-use Rattle.rules.specs.First.{first}
+use Rattle.rules.specs.calls.First.{first}
 use Rattle.sender.proofs.first_of.Statement.{statement}
 use Rattle.sender.proofs.first_of.Tie as tie
 

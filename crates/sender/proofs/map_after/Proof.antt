@@ -10,7 +10,7 @@ use Rattle.cut.specs.PossibleLaws.{possible-facts, possible-most}
 use Rattle.map.specs.Map.{holds, marked}
 use Rattle.map.specs.MapLaws.{marked-adds, holds-zero}
 use Rattle.state.specs.declared.Sender.{Sender}
-use Rattle.rules.specs.Admit.{rejoins, mapAfter}
+use Rattle.rules.specs.calls.Admit.{rejoins, mapAfter}
 use Rattle.sender.proofs.map_after.Statement.{statement}
 use Rattle.sender.proofs.map_after.Tie as tie
 

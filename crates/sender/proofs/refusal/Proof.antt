@@ -1,5 +1,5 @@
 -- Each test is that of its row. Assumes nothing.
-use Rattle.rules.specs.Admit.{senderRows}
+use Rattle.rules.specs.calls.Admit.{senderRows}
 use borrow.Author.Needs.{needs}
 use Rattle.sender.proofs.refusal.Statement.{statement}
 use Rattle.sender.proofs.refusal.Tie as tie

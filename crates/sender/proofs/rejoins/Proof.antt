@@ -1,6 +1,6 @@
 -- The test is that of the definition. Assumes nothing.
 use mathlib.Core.Path.{refl}
-use Rattle.rules.specs.Admit.{rejoins}
+use Rattle.rules.specs.calls.Admit.{rejoins}
 use Rattle.sender.proofs.rejoins.Statement.{statement}
 use Rattle.sender.proofs.rejoins.Tie as tie
 

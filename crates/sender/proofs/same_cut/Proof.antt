@@ -1,5 +1,5 @@
 -- Each test is that of the definition. Assumes nothing.
-use Rattle.rules.specs.Admit.{sameCut}
+use Rattle.rules.specs.calls.Admit.{sameCut}
 use borrow.Author.Needs.{needs}
 use Rattle.sender.proofs.same_cut.Statement.{statement}
 use Rattle.sender.proofs.same_cut.Tie as tie

@@ -6,7 +6,7 @@ use native.Mathlib.Numerals.{add-one}
 use borrow.Author.Needs.{needs}
 use lib.ListN.{length, length-set}
 use Rattle.octets.specs.Split.{mapped-length}
-use Rattle.rules.specs.Setup.{newSenders}
+use Rattle.rules.specs.calls.Setup.{newSenders}
 use Rattle.setup.specs.Settled.{settled, settled-few, seated, seated-none, seated-all}
 use Rattle.setup.proofs.new_state.Statement.{statement}
 use Rattle.setup.proofs.new_state.Tie as tie

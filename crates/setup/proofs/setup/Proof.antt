@@ -2,8 +2,8 @@
 use mathlib.Core.Path.{sym, _∙_}
 use borrow.Author.Needs.{needs}
 use borrow.Author.Tests.{not-true, not-false}
-use Rattle.rules.specs.Setup.{setupAnswer}
-use Rattle.rules.specs.SetupLaws.{setup-count}
+use Rattle.rules.specs.calls.Setup.{setupAnswer}
+use Rattle.rules.specs.calls.SetupLaws.{setup-count}
 use Rattle.setup.proofs.setup.Statement.{statement}
 use Rattle.setup.proofs.setup.Tie as tie
 

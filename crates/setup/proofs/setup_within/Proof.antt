@@ -1,5 +1,5 @@
 -- Each test is that of the definition. Assumes nothing.
-use Rattle.rules.specs.Setup.{setupWithin}
+use Rattle.rules.specs.calls.Setup.{setupWithin}
 use borrow.Author.Needs.{needs}
 use Rattle.setup.proofs.setup_within.Statement.{statement}
 use Rattle.setup.proofs.setup_within.Tie as tie

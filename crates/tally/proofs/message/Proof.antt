@@ -50,17 +50,17 @@ use denote.Triple.Walked.{Stays, stay-ref, stay-dropped, gave-slice, onExit, wal
 use denote.Triple.Walked.{Walks, ends-at, walked, walk-meets}
 use denote.Exit.{yes}
 use Rattle.state.specs.declared.Receiver.{Receiver}
-use Rattle.rules.specs.declared.answers.Answer.{Answer}
-use Rattle.rules.specs.declared.answers.Outcome.{Outcome}
-use Rattle.rules.specs.Message.{messageAnswer, messageStorage}
+use Rattle.answers.specs.declared.Answer.{Answer}
+use Rattle.answers.specs.declared.Outcome.{Outcome}
+use Rattle.rules.specs.calls.Message.{messageAnswer, messageStorage}
 use Rattle.tally.specs.Tally.{counted}
 use Rattle.tally.specs.declared.Tally.{Tally}
 use Rattle.state.proofs.Receiver as R
 use Rattle.state.proofs.Receiver.Laws as R′
-use Rattle.rules.proofs.answers.Answer as A
-use Rattle.rules.proofs.answers.Answer.Laws as A′
-use Rattle.rules.proofs.answers.Outcome as O
-use Rattle.rules.proofs.answers.Outcome.Laws as O′
+use Rattle.answers.proofs.Answer as A
+use Rattle.answers.proofs.Answer.Laws as A′
+use Rattle.answers.proofs.Outcome as O
+use Rattle.answers.proofs.Outcome.Laws as O′
 use Rattle.tally.proofs.Tally as T
 use Rattle.tally.proofs.Tally.Laws as T′
 use Rattle.receiver.proofs.message.message as call

@@ -1,5 +1,5 @@
 -- Each test is that of the definition. Assumes nothing.
-use Rattle.rules.specs.Message.{headWithin}
+use Rattle.rules.specs.calls.Message.{headWithin}
 use borrow.Author.Needs.{needs}
 use Rattle.receiver.proofs.message.head_within.Statement.{statement}
 use Rattle.receiver.proofs.message.head_within.Tie as tie

@@ -1,8 +1,8 @@
 -- One pass over the table, two judges, and what an admitted PDU does. Assumes nothing.
 use native.Mathlib.Omega.{arith}
 use denote.Ref.{now}
-use Rattle.rules.specs.MessageLaws.{pass-refused, pass-facts, pass-place, pass-late, pass-admitted, pass-taken}
-use Rattle.rules.specs.Message.{refused, withSender}
+use Rattle.rules.specs.calls.MessageLaws.{pass-refused, pass-facts, pass-place, pass-late, pass-admitted, pass-taken}
+use Rattle.rules.specs.calls.Message.{refused, withSender}
 use borrow.Author.Needs.{needs}
 use Rattle.receiver.proofs.message.message.Statement.{statement}
 use Rattle.receiver.proofs.message.message.Tie as tie

@@ -4,7 +4,7 @@ use native.Mathlib.Omega.{arith}
 use borrow.Author.Tests.{eq-eqb, ne-eqb}
 use Rattle.cut.specs.PossibleLaws.{possible-facts, possible-within}
 use Rattle.octets.specs.Run.{run}
-use Rattle.rules.specs.Message.{storageAfter}
+use Rattle.rules.specs.calls.Message.{storageAfter}
 use borrow.Author.Needs.{needs}
 use Rattle.receiver.proofs.message.store.Statement.{statement}
 use Rattle.receiver.proofs.message.store.Tie as tie

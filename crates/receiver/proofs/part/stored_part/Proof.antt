@@ -6,7 +6,7 @@ use denote.Ref.{now}
 use lib.ListN.{length}
 use borrow.Author.Tests.{le-leb, lt-leb}
 use Rattle.octets.specs.Run.{run}
-use Rattle.rules.specs.Part.{storedPart}
+use Rattle.rules.specs.calls.Part.{storedPart}
 use borrow.Author.Needs.{needs}
 use Rattle.receiver.proofs.part.stored_part.Statement.{statement}
 use Rattle.receiver.proofs.part.stored_part.Tie as tie

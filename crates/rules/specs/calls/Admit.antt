@@ -1,0 +1,139 @@
+-- What one sender's record makes of a PDU that has come as far as its sender: the numbers 15 to 20, and what an admitted PDU does
+-- (D.4.4; "we follow the prose").
+use Prim.Native.Nat.{ℕ, _+_}
+use mathlib.Core.Bool.{Bool, true, false, not, cond, _&&_}
+use mathlib.Core.List.{List, [], _∷_}
+use lib.Count.{ones}
+use lib.Dec.{eqb}
+use Rattle.ring.specs.declared.Verdict.{Verdict}
+use Rattle.ring.specs.Check.{check, isRepeat, isUnchecked}
+use Rattle.ring.specs.Ring.{newer}
+use Rattle.header.specs.declared.Head.{Head}
+use Rattle.cut.specs.Possible.{possible, unit, messageLength}
+use Rattle.map.specs.Map.{holds, pieceBit, fullMap}
+use Rattle.state.specs.declared.Last.{Last}
+use Rattle.state.specs.declared.Message.{Message}
+use Rattle.state.specs.declared.Sender.{Sender}
+use Rattle.answers.specs.declared.Admission.{Admission}
+use Rattle.answers.specs.declared.Dropped.{Dropped}
+use Rattle.answers.specs.declared.Outcome.{Outcome}
+use Rattle.answers.specs.declared.Outcome.the-variants.{Refused, Stored, Delivered}
+use Rattle.rules.specs.calls.First.{Row, row, first}
+use Rattle.state.specs.State.{noMessage}
+
+-- ---- the open message and the PDU
+
+-- "Same version and number" as the open message's.
+unfoldable pub rejoins : Sender → Head → Bool
+rejoins s h =
+    s .«open» && eqb (s .message .version .0) (h .given .version .0) && eqb (s .message .number .0) (h .given .number .0)
+
+-- 19 compares "TCD, n, TBN or u".
+unfoldable pub sameCut : Message → Head → Bool
+sameCut m h =
+    eqb (m .tcd) (h .given .tcd) && eqb (m .n) (messageLength (h .cut)) && eqb (m .tbn) (h .cut .tbn) && eqb (m .u) (unit (h .cut))
+
+-- What the number check says of the PDU.
+abbrev pub verdictOf : ℕ → Sender → Head → Verdict
+verdictOf n1 s h = check n1 (s .last .version .0) (s .last .number .0) (h .given .version .0) (h .given .number .0)
+
+-- ---- the numbers
+
+-- 15 to 20, of the sender's record alone.
+unfoldable pub senderRows : Bool → ℕ → Sender → Head → List Row
+senderRows test n1 s h =
+    -- "test message at an online node"
+    row 15 (eqb (h .given .mode) 1 && not test)
+    -- "cut not possible"
+    ∷ row 16 (not (possible (h .cut)))
+    -- "number check says repeat"
+    ∷ row 17 (isRepeat (verdictOf n1 s h))
+    -- "open message has the same version and a larger number"
+    ∷ row 18 (s .«open» && eqb (s .message .version .0) (h .given .version .0) && newer (s .message .number .0) (h .given .number .0))
+    -- "same version and number, but TCD, n, TBN or u differ"
+    ∷ row 19 (rejoins s h && not (sameCut (s .message) h))
+    -- "piece already held (octets not compared)"
+    ∷ row 20 (rejoins s h && holds (s .message .map) (h .cut .cbn))
+    ∷ []
+
+-- ---- what an admitted PDU does
+
+-- "nothing open, it opens"; another version or a larger number: "the new one opens". "Same version and number: a new piece is added."
+unfoldable pub mapAfter : Sender → Head → ℕ
+mapAfter s h = cond (rejoins s h) (s .message .map) 0 + pieceBit (h .cut .cbn)
+
+-- "The message is delivered at the piece that fills the map, in whatever order pieces came"
+unfoldable pub fills : Sender → Head → Bool
+fills s h = eqb (mapAfter s h) (fullMap (h .cut .tbn))
+
+abbrev pub noneDropped : Dropped
+noneDropped = record { version = record { 0 = 0 }; number = record { 0 = 0 } }
+
+-- "the open message is dropped, its version and number stand in the answer (both 0 if none)"
+unfoldable pub droppedBy : Sender → Head → Dropped
+droppedBy s h =
+    cond (s .«open» && not (rejoins s h))
+    (record { version = s .message .version; number = s .message .number })
+    noneDropped
+
+-- "In cases 2 to 4, delivery stores V_SEQ and SEQ." In case 1 "Delivery leaves RV and R."
+abbrev pub lastBy : Verdict → Sender → Head → Last
+lastBy v s h = cond (isUnchecked v) (s .last) (record { version = h .given .version; number = h .given .number })
+
+-- "nothing is then open"
+abbrev pub closed : Sender → Last → Sender
+closed s l = record { address = s .address; last = l; «open» = false; message = noMessage; alive = s .alive; heard = s .heard }
+
+-- "kept with V_SEQ, SEQ, TCD, n, TBN, u and a 64-bit map of pieces held"; "A fragment that is stored sets the message's stamp to the clock."
+abbrev pub messageOf : ℕ → ℕ → Head → Message
+messageOf clock map h = record {
+  version = h .given .version;
+  number = h .given .number;
+  tcd = h .given .tcd;
+  n = messageLength (h .cut);
+  tbn = h .cut .tbn;
+  u = unit (h .cut);
+  map = map;
+  stamp = clock;
+}
+
+abbrev pub opened : Sender → Message → Sender
+opened s m = record { address = s .address; last = s .last; «open» = true; message = m; alive = s .alive; heard = s .heard }
+
+-- The sender's record afterwards.
+unfoldable pub senderAfter : ℕ → ℕ → Sender → Head → Sender
+senderAfter n1 clock s h =
+    cond (fills s h) (closed s (lastBy (verdictOf n1 s h) s h)) (opened s (messageOf clock (mapAfter s h) h))
+
+-- "How many pieces are held is the count of ones in the map."
+unfoldable pub heldAfter : Sender → Head → ℕ
+heldAfter s h = cond (fills s h) 0 (ones (mapAfter s h))
+
+-- What an admitted PDU does.
+unfoldable pub admitted : ℕ → ℕ → Sender → Head → Admission
+admitted n1 clock s h = record {
+  outcome = cond (fills s h) (Delivered (verdictOf n1 s h)) Stored;
+  held = heldAfter s h;
+  dropped = droppedBy s h;
+  sender = senderAfter n1 clock s h;
+}
+
+-- "A refusal alters no state, stamp, …"
+unfoldable pub notAdmitted : Sender → ℕ → Admission
+notAdmitted s k = record { outcome = Refused k; held = 0; dropped = noneDropped; sender = s }
+
+unfoldable pub admission : Bool → ℕ → ℕ → Sender → Head → Admission
+admission test n1 clock s h =
+    cond (eqb (first (senderRows test n1 s h)) 0) (admitted n1 clock s h) (notAdmitted s (first (senderRows test n1 s h)))
+
+-- The number of a refusal, 0 where there is none.
+abbrev pub refusedNumber : Outcome → ℕ
+refusedNumber (Refused k) = k
+refusedNumber Stored = 0
+refusedNumber (Delivered v) = 0
+
+-- "0 stored, done or written; 1 delivered."
+abbrev pub outcomeNumber : Outcome → ℕ
+outcomeNumber (Refused k) = k
+outcomeNumber Stored = 0
+outcomeNumber (Delivered v) = 1

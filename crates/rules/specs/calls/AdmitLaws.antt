@@ -1,0 +1,79 @@
+-- Laws of admission: what is known where no number of 15 to 20 applies. Assumes nothing.
+use mathlib.Core.Path.{_≡_, refl, sym, _∙_}
+use mathlib.Core.Bool.{Bool, true, false, not, cond, _&&_}
+use Prim.Native.Nat.{ℕ}
+use native.Mathlib.Omega.{arith}
+use lib.Dec.{eqb}
+use borrow.Author.Tests.{eq-eqb, ne-eqb, eqb-true, not-false}
+use Rattle.octets.specs.Split.{cond-case, never-both, and-left}
+use Rattle.ring.specs.Check.{isRepeat}
+use Rattle.header.specs.declared.Head.{Head}
+use Rattle.cut.specs.Possible.{possible}
+use Rattle.map.specs.Map.{holds}
+use Rattle.state.specs.declared.Sender.{Sender}
+use Rattle.answers.specs.declared.Admission.{Admission}
+use Rattle.answers.specs.declared.Outcome.{Outcome}
+use Rattle.rules.specs.calls.Admit.{rejoins, sameCut, verdictOf, senderRows, fills, admitted, notAdmitted, admission, refusedNumber}
+use Rattle.rules.specs.calls.First.{first}
+use Rattle.rules.specs.calls.FirstLaws.{first-none}
+
+-- An admitted PDU has a possible cut, is no repeat, is not older than the open message, has its cut if it belongs to it, and
+-- is a new piece of it.
+pub record Admitted (n1 : ℕ) (s : Sender) (h : Head) : Type 0 where
+  pub cut-possible : possible (h .cut) ≡ true
+  pub no-repeat : isRepeat (verdictOf n1 s h) ≡ false
+  pub same-cut : rejoins s h ≡ true → sameCut (s .message) h ≡ true
+  pub new-piece : rejoins s h ≡ true → holds (s .message .map) (h .cut .cbn) ≡ false
+
+if-and : (a b : Bool) → a && b ≡ false → a ≡ true → b ≡ false
+if-and true b e f = e
+if-and false b e f = absurd (never-both f refl)
+
+pub admitted-facts : (test : Bool) (n1 : ℕ) (s : Sender) (h : Head) → first (senderRows test n1 s h) ≡ 0 → Admitted n1 s h
+unfolding senderRows
+admitted-facts test n1 s h e =
+    let r15 = first-none 15 (eqb (h .given .mode) 1 && not test) _ (λ z. omega arith) e in
+    let r16 = first-none 16 (not (possible (h .cut))) _ (λ z. omega arith) (r15 .1) in
+    let r17 = first-none 17 (isRepeat (verdictOf n1 s h)) _ (λ z. omega arith) (r16 .1) in
+    let r18 = first-none 18 _ _ (λ z. omega arith) (r17 .1) in
+    let r19 = first-none 19 (rejoins s h && not (sameCut (s .message) h)) _ (λ z. omega arith) (r18 .1) in
+    let r20 = first-none 20 (rejoins s h && holds (s .message .map) (h .cut .cbn)) _ (λ z. omega arith) (r19 .1) in
+    record {
+      cut-possible = not-false (possible (h .cut)) (r16 .0);
+      no-repeat = r17 .0;
+      same-cut = λ f. not-false (sameCut (s .message) h) (if-and (rejoins s h) (not (sameCut (s .message) h)) (r19 .0) f);
+      new-piece = if-and (rejoins s h) (holds (s .message .map) (h .cut .cbn)) (r20 .0);
+    }
+
+-- What belongs to the open message finds one open.
+pub rejoins-open : (s : Sender) (h : Head) → rejoins s h ≡ true → s .«open» ≡ true
+unfolding rejoins
+rejoins-open s h e =
+    let version = eqb (s .message .version .0) (h .given .version .0) in
+    let number = eqb (s .message .number .0) (h .given .number .0) in
+    and-left (s .«open») version (and-left (s .«open» && version) number e)
+
+-- ---- the admission by its number
+
+pub admission-yes : (test : Bool) (n1 clock : ℕ) (s : Sender) (h : Head) → first (senderRows test n1 s h) ≡ 0 → admission test n1 clock s h ≡ admitted n1 clock s h
+unfolding admission
+admission-yes test n1 clock s h e = rw (eq-eqb (first (senderRows test n1 s h)) 0 e)
+
+pub admission-no : (test : Bool) (n1 clock : ℕ) (s : Sender) (h : Head) (k : ℕ) → k ≡ first (senderRows test n1 s h) → (k ≡ 0 → ⊥)
+    → notAdmitted s k ≡ admission test n1 clock s h
+unfolding admission
+admission-no test n1 clock s h k e ne = rw (e, ne-eqb (first (senderRows test n1 s h)) 0 (λ z. ne (e ∙ z)))
+
+-- The number that the outcome holds is that of the first row that applies.
+pub admitted-zero : (n1 clock : ℕ) (s : Sender) (h : Head) → refusedNumber (admitted n1 clock s h .outcome) ≡ 0
+unfolding admitted
+admitted-zero n1 clock s h = cond-case (λ (o : Outcome). refusedNumber o ≡ 0) (fills s h) _ _ (λ e. refl) (λ e. refl)
+
+pub admission-number : (test : Bool) (n1 clock : ℕ) (s : Sender) (h : Head)
+    → refusedNumber (admission test n1 clock s h .outcome) ≡ first (senderRows test n1 s h)
+unfolding admission notAdmitted
+admission-number test n1 clock s h = by (first (senderRows test n1 s h)) (eqb (first (senderRows test n1 s h)) 0) refl
+  where
+    by : (k : ℕ) (b : Bool) → eqb k 0 ≡ b → refusedNumber ((cond {A = Admission} b (admitted n1 clock s h) (notAdmitted s k)) .outcome) ≡ k
+    by k true e = admitted-zero n1 clock s h ∙ sym (eqb-true k 0 e)
+    by k false e = refl

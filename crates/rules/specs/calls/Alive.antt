@@ -1,0 +1,78 @@
+-- The alive call: "An alive PDU is 128 to 1,472 octets, its length equal to BSIZE and ML, CBN = TBN = 1, code 60,003, group 0, layout
+-- by 5.3. … No number check."
+use Prim.Native.Nat.{ℕ}
+use mathlib.Core.Bool.{Bool, true, false, not, cond, _&&_}
+use mathlib.Core.List.{List, [], _∷_}
+use lib.Dec.{eqb, leb}
+use lib.ListN.{length}
+use Rattle.header.specs.declared.Head.{Head}
+use Rattle.signal.specs.declared.Body.{Body}
+use Rattle.signal.specs.Alive.{bodyOf, isBody, groupOf}
+use Rattle.signal.specs.AlivePlaces.{aliveSize}
+use Rattle.header.specs.Codes.{isAlive, isMode, isPri}
+use Rattle.header.specs.Head.{headOf, isFixed}
+use Rattle.state.specs.declared.Heard.{Heard}
+use Rattle.state.specs.declared.Sender.{Sender}
+use Rattle.state.specs.declared.Receiver.{Receiver}
+use Rattle.answers.specs.declared.Call.the-variants.{Done, Refused}
+use Rattle.answers.specs.declared.Noted.{Noted}
+use Rattle.rules.specs.calls.First.{Row, row, first}
+use Rattle.state.specs.Limits.{valid}
+use Rattle.state.specs.Table.{found}
+use Rattle.rules.specs.calls.Message.{lengthOutside, withSender}
+use Rattle.state.specs.State.{senderAt, noHeard}
+
+-- ---- the numbers
+
+-- "12: PDU too short (64; alive 128), too long (1,460; alive 1,472), or length unlike BSIZE"
+abbrev pub aliveLengthWrong : ℕ → Head → Bool
+aliveLengthWrong = lengthOutside aliveSize 1472
+
+-- "13: a fixed field of 5.1, PRI, MODE, code, or SEQ (…; not looked at in alive signals) out of range"; "Code in 13 means … in an
+-- alive signal not 60,003."
+unfoldable pub aliveHeadWithin : List ℕ → Head → Bool
+aliveHeadWithin packet h = isFixed packet && isPri (h .given .pri) && isMode (h .given .mode) && isAlive (h .given .tcd)
+
+-- "22: alive ML, CBN, TBN, group or body wrong"
+unfoldable pub aliveWithin : ℕ → Head → Body → Bool
+aliveWithin k h b =
+    eqb (h .cut .ml) k && eqb (h .cut .cbn) 1 && eqb (h .cut .tbn) 1 && eqb (groupOf (h .given .da)) 0 && isBody b
+
+-- "Alive signals use 9, 12, 13, 14, 22 only"
+abbrev pub signalRows : Bool → ℕ → ℕ → List ℕ → Head → Body → List Row
+signalRows ok count i packet h b =
+    row 9 (not ok)
+    ∷ row 12 (aliveLengthWrong (length packet) h)
+    ∷ row 13 (not (aliveHeadWithin packet h))
+    -- "sender not registered"
+    ∷ row 14 (leb count i)
+    ∷ row 22 (not (aliveWithin (length packet) h b))
+    ∷ []
+
+unfoldable pub aliveRows : Receiver → List ℕ → List Row
+aliveRows w packet = signalRows (valid w) (w .count) (found w (headOf packet)) packet (headOf packet) (bodyOf packet)
+
+-- ---- what an alive signal does
+
+abbrev pub heardAs : Sender → Bool → Heard → Sender
+heardAs s alive heard = record { address = s .address; last = s .last; «open» = s .«open»; message = s .message; alive = alive; heard = heard }
+
+-- "Mode 1: the sender is alive, stamped with the clock and al_tm_out (unit by 5.3). Modes 2 and 3: dead from then on"
+unfoldable pub heardBy : ℕ → Sender → Body → Sender
+heardBy clock s b =
+    cond (eqb (b .mode) 1) (heardAs s true (record { stamp = clock; timeout = b .timeout })) (heardAs s false noHeard)
+
+-- ---- the call
+
+abbrev pub noted : Receiver → ℕ → Body → Noted
+noted w i b = record { call = Done; state = withSender w i (heardBy (w .clock) (senderAt w i) b) }
+
+-- "A refusal alters no state, stamp, clock, …"
+abbrev pub notNoted : Receiver → ℕ → Noted
+notNoted w k = record { call = Refused k; state = w }
+
+unfoldable pub aliveAnswer : Receiver → List ℕ → Noted
+aliveAnswer w packet =
+    cond (eqb (first (aliveRows w packet)) 0)
+    (noted w (found w (headOf packet)) (bodyOf packet))
+    (notNoted w (first (aliveRows w packet)))

@@ -1,0 +1,109 @@
+-- The message call: its numbers in the order in which they are tried, and what an admitted PDU does to state and storage.
+use Prim.Native.Nat.{ℕ, _+_, _*_}
+use mathlib.Core.Bool.{Bool, not, cond, _&&_, _||_}
+use mathlib.Core.List.{List, [], _∷_, _++_}
+use lib.Dec.{eqb, leb, ltb}
+use lib.ListN.{set, length}
+use Rattle.octets.specs.Run.{run, laid}
+use Rattle.ring.specs.Ring.{isNumber}
+use Rattle.header.specs.declared.Head.{Head}
+use Rattle.header.specs.Codes.{isUser, isMode, isPri}
+use Rattle.header.specs.Head.{headOf, isFixed}
+use Rattle.header.specs.Places.{headerSize}
+use Rattle.cut.specs.Possible.{place, messageLength, ownLength}
+use Rattle.state.specs.declared.Sender.{Sender}
+use Rattle.state.specs.declared.Receiver.{Receiver}
+use Rattle.answers.specs.declared.Answer.{Answer}
+use Rattle.answers.specs.declared.Outcome.{Outcome}
+use Rattle.answers.specs.declared.Outcome.the-variants.{Refused, Stored, Delivered}
+use Rattle.answers.specs.declared.Where.{Where}
+use Rattle.answers.specs.declared.Where.the-variants.{Nothing, Packet, Storage}
+use Rattle.rules.specs.calls.Admit.{senderRows, admitted, noneDropped}
+use Rattle.rules.specs.calls.First.{Row, row, first}
+use Rattle.state.specs.Limits.{valid}
+use Rattle.state.specs.State.{senderAt}
+use Rattle.state.specs.Table.{found}
+
+-- "The storage is exactly 16,384 octets for each sender, in table order."
+abbrev pub area : ℕ
+area = 16384
+
+-- ---- the numbers
+
+-- "PDU too short …, too long …, or length unlike BSIZE"
+abbrev pub lengthOutside : ℕ → ℕ → ℕ → Head → Bool
+lengthOutside least most k h = ltb k least || ltb most k || not (eqb k (h .cut .bsize))
+
+-- "64 … 1,460"
+abbrev pub lengthWrong : ℕ → Head → Bool
+lengthWrong = lengthOutside headerSize 1460
+
+-- "a fixed field of 5.1, PRI, MODE, code, or SEQ (0 or above M) out of range" is 13.
+unfoldable pub headWithin : List ℕ → Head → Bool
+headWithin packet h =
+    isFixed packet && isPri (h .given .pri) && isMode (h .given .mode) && isUser (h .given .tcd) && isNumber (h .given .number .0)
+
+-- 9 and 11 to 14, of a packet with this header from the sender at place i.
+abbrev pub packetRows : Bool → ℕ → ℕ → ℕ → List ℕ → Head → List Row
+packetRows ok count i room packet h =
+    row 9 (not ok)
+    -- "storage length wrong"
+    ∷ row 11 (not (eqb room (count * area)))
+    ∷ row 12 (lengthWrong (length packet) h)
+    ∷ row 13 (not (headWithin packet h))
+    -- "sender not registered"
+    ∷ row 14 (leb count i)
+    ∷ []
+
+unfoldable pub messageRows : Receiver → ℕ → List ℕ → List Row
+messageRows w room packet =
+    packetRows (valid w) (w .count) (found w (headOf packet)) room packet (headOf packet)
+    ++ senderRows (w .test) (w .n1) (senderAt w (found w (headOf packet))) (headOf packet)
+
+abbrev pub messageNumber : Receiver → ℕ → List ℕ → ℕ
+messageNumber w room packet = first (messageRows w room packet)
+
+-- ---- what an admitted PDU does
+
+-- "A piece of several changes exactly its p octets in its sender's area." "A message of one piece is delivered at once and storage is untouched."
+unfoldable pub storageAfter : List ℕ → ℕ → Head → List ℕ → List ℕ
+storageAfter storage i h packet =
+    cond (eqb (h .cut .tbn) 1) storage (laid storage (i * area + place (h .cut)) (run headerSize (ownLength (h .cut)) packet))
+
+-- "The message is handed over as a part of the packet or of the storage"
+abbrev pub liesAt : ℕ → Head → Where
+liesAt i h = cond (eqb (h .cut .tbn) 1) Packet (Storage (i * area) (messageLength (h .cut)))
+
+abbrev pub whereBy : Outcome → ℕ → Head → Where
+whereBy (Refused k) i h = Nothing
+whereBy Stored i h = Nothing
+whereBy (Delivered v) i h = liesAt i h
+
+-- The state with another record for the sender at place i.
+unfoldable pub withSender : Receiver → ℕ → Sender → Receiver
+withSender w i s = record { test = w .test; n1 = w .n1; t = w .t; clock = w .clock; count = w .count; senders = set (w .senders) i s }
+
+unfoldable pub taken : Receiver → ℕ → Sender → Head → Answer
+taken w i s h = record {
+  outcome = admitted (w .n1) (w .clock) s h .outcome;
+  held = admitted (w .n1) (w .clock) s h .held;
+  dropped = admitted (w .n1) (w .clock) s h .dropped;
+  place = whereBy (admitted (w .n1) (w .clock) s h .outcome) i h;
+  state = withSender w i (admitted (w .n1) (w .clock) s h .sender);
+}
+
+-- "returns nothing more"; "A refusal alters no state, stamp, clock, storage or buffer."
+unfoldable pub refused : Receiver → ℕ → Answer
+refused w k = record { outcome = Refused k; held = 0; dropped = noneDropped; place = Nothing; state = w }
+
+-- ---- the call
+
+unfoldable pub messageAnswer : Receiver → ℕ → List ℕ → Answer
+messageAnswer w room packet =
+    cond (eqb (messageNumber w room packet) 0)
+    (taken w (found w (headOf packet)) (senderAt w (found w (headOf packet))) (headOf packet))
+    (refused w (messageNumber w room packet))
+
+unfoldable pub messageStorage : Receiver → List ℕ → List ℕ → List ℕ
+messageStorage w storage packet =
+    cond (eqb (messageNumber w (length storage) packet) 0) (storageAfter storage (found w (headOf packet)) (headOf packet) packet) storage

@@ -1,0 +1,133 @@
+-- What is looked at of one sender: each definition that takes a sender's record looks only at what is `seen` of it, and each change
+-- of a record changes only that. Assumes nothing.
+use mathlib.Core.Path.{_≡_, refl, sym, ap, _∙_}
+use mathlib.Core.Bool.{Bool, true, false, not, cond}
+use Prim.Native.Nat.{ℕ}
+use lib.Dec.{eqb}
+use Rattle.header.specs.declared.Head.{Head}
+use Rattle.signal.specs.declared.Body.{Body}
+use Rattle.state.specs.declared.Address.{Address}
+use Rattle.state.specs.declared.Last.{Last}
+use Rattle.state.specs.declared.Message.{Message}
+use Rattle.state.specs.declared.Heard.{Heard}
+use Rattle.state.specs.declared.Sender.{Sender}
+use Rattle.rules.specs.calls.Admit.{rejoins, senderRows, mapAfter, fills, droppedBy, heldAfter, senderAfter, admitted}
+use Rattle.rules.specs.calls.Alike.{seen}
+use Rattle.rules.specs.calls.Alive.{heardBy}
+use Rattle.rules.specs.calls.Clock.{drops, dies, aged}
+use Rattle.state.specs.Limits.{senderWithin}
+
+-- ---- branches
+
+cond-ap : {A B : Type 0} (f : A → B) (b : Bool) (x y : A) → f (cond b x y) ≡ cond b (f x) (f y)
+cond-ap f true x y = refl
+cond-ap f false x y = refl
+
+-- What was emptied is empty.
+emptied : {A : Type 0} (b : Bool) (none x : A) → cond (not b) (cond b none x) none ≡ cond b none x
+emptied true none x = refl
+emptied false none x = refl
+
+-- ---- what is looked at of one sender
+
+-- A function that never looks at the rest.
+abbrev pub LooksAtSeen : {A : Type 0} → (Sender → A) → Type 0
+LooksAtSeen f = (s : Sender) → f (seen s) ≡ f s
+
+pub looks-same : {A : Type 0} (f : Sender → A) → LooksAtSeen f → (s r : Sender) → seen s ≡ seen r → f s ≡ f r
+looks-same f law s r e = sym (law s) ∙ ap f e ∙ law r
+
+-- A change that never looks at the rest, and leaves it 0 where it was.
+abbrev pub ChangesSeen : (Sender → Sender) → Type 0
+ChangesSeen f = (s : Sender) → seen (f s) ≡ f (seen s)
+
+pub changes-same : (f : Sender → Sender) → ChangesSeen f → (s r : Sender) → seen s ≡ seen r → seen (f s) ≡ seen (f r)
+changes-same f law s r e = law s ∙ ap f e ∙ sym (law r)
+
+pub changes-zero : (f : Sender → Sender) → ChangesSeen f → (s : Sender) → seen s ≡ s → seen (f s) ≡ f s
+changes-zero f law s e = law s ∙ ap f e
+
+-- A sender has a message open or not, and is alive or not.
+abbrev sender : Address → Last → Message → Heard → Bool → Bool → Sender
+sender a l m h o v = record { address = a; last = l; «open» = o; message = m; alive = v; heard = h }
+
+module _ (P : Sender → Type 0) where
+  abbrev Cases : Address → Last → Message → Heard → Type 0
+  Cases a l m h = P (sender a l m h true true) × P (sender a l m h true false) × P (sender a l m h false true) × P (sender a l m h false false)
+
+  by-cases : ((a : Address) (l : Last) (m : Message) (h : Heard) → Cases a l m h) → (s : Sender) → P s
+  by-cases f s = by (f (s .address) (s .last) (s .message) (s .heard)) (s .«open») (s .alive)
+    where
+      by : Cases (s .address) (s .last) (s .message) (s .heard) → (o v : Bool) → P (sender (s .address) (s .last) (s .message) (s .heard) o v)
+      by c true true = c .0
+      by c true false = c .1
+      by c false true = c .2
+      by c false false = c .3
+
+pub looks-address : LooksAtSeen (λ s. s .address)
+unfolding seen
+looks-address s = refl
+
+pub looks-open : LooksAtSeen (λ s. s .«open»)
+unfolding seen
+looks-open s = refl
+
+-- The record of an open message is looked at.
+pub looks-message : (s : Sender) → s .«open» ≡ true → seen s .message ≡ s .message
+unfolding seen
+looks-message s e = rw e
+
+pub looks-within : (clock : ℕ) → LooksAtSeen (senderWithin clock)
+unfolding seen senderWithin
+looks-within clock = by-cases _ (λ a l m h. (refl, refl, refl, refl))
+
+-- The clock call.
+
+pub looks-drops : (t now : ℕ) → LooksAtSeen (drops t now)
+unfolding seen
+looks-drops t now = by-cases _ (λ a l m h. (refl, refl, refl, refl))
+
+pub looks-dies : (now : ℕ) → LooksAtSeen (dies now)
+unfolding seen
+looks-dies now = by-cases _ (λ a l m h. (refl, refl, refl, refl))
+
+pub changes-aged : (t now : ℕ) → ChangesSeen (aged t now)
+unfolding seen aged
+changes-aged t now = by-cases _ (λ a l m h. (simp emptied, simp emptied, simp emptied, refl))
+
+-- The alive call.
+
+pub changes-heard : (clock : ℕ) (b : Body) → ChangesSeen (λ s. heardBy clock s b)
+unfolding seen heardBy
+changes-heard clock b s = cond-ap seen (eqb (b .mode) 1) _ _
+
+-- The message call.
+
+module _ (h : Head) where
+  pub looks-rows : (test : Bool) (n1 : ℕ) → LooksAtSeen (λ s. senderRows test n1 s h)
+  unfolding seen senderRows rejoins
+  looks-rows test n1 = by-cases _ (λ a l m g. (refl, refl, refl, refl))
+
+  pub looks-map : LooksAtSeen (λ s. mapAfter s h)
+  unfolding seen mapAfter rejoins
+  looks-map = by-cases _ (λ a l m g. (refl, refl, refl, refl))
+
+  pub looks-dropped : LooksAtSeen (λ s. droppedBy s h)
+  unfolding seen droppedBy rejoins
+  looks-dropped = by-cases _ (λ a l m g. (refl, refl, refl, refl))
+
+  pub looks-fills : LooksAtSeen (λ s. fills s h)
+  unfolding fills
+  looks-fills s = rw (looks-map s)
+
+  pub looks-held : LooksAtSeen (λ s. heldAfter s h)
+  unfolding heldAfter
+  looks-held s = rw (looks-fills s, looks-map s)
+
+  pub looks-outcome : (n1 clock : ℕ) → LooksAtSeen (λ s. admitted n1 clock s h .outcome)
+  unfolding seen admitted
+  looks-outcome n1 clock s = rw (looks-fills s)
+
+  pub changes-after : (n1 clock : ℕ) → ChangesSeen (λ s. senderAfter n1 clock s h)
+  unfolding seen senderAfter
+  changes-after n1 clock s = cond-ap seen (fills s h) _ _ ∙ rw (looks-fills s, looks-map s)
