@@ -1,57 +1,18 @@
 //! `second random` and `second random-cut`: pseudo-random captures, the same
 //! for the same SEED. The scenes that are played stand in scenes.rs.
 
-use crate::fields::{field, next_field, Next, Run};
+use crate::dice::Dice;
+use crate::fields::{
+    field, next_field, setup_contents, Next, Run, TAG_ALIVE, TAG_CLOCK, TAG_MESSAGE, TAG_SETUP,
+};
 use crate::scenes;
+use crate::stage::Stage;
+use crate::state::{Receiver, Setup};
 
-/// A small generator (splitmix64), so that captures depend on the seed alone.
-pub struct Dice {
-    state: u64,
-}
-
-impl Dice {
-    pub fn new(seed: u64) -> Dice {
-        Dice { state: seed }
-    }
-
-    pub fn throw(&mut self) -> u64 {
-        self.state = self.state.wrapping_add(0x9e37_79b9_7f4a_7c15);
-        let mut z = self.state;
-        z = (z ^ (z >> 30)).wrapping_mul(0xbf58_476d_1ce4_e5b9);
-        z = (z ^ (z >> 27)).wrapping_mul(0x94d0_49bb_1331_11eb);
-        z ^ (z >> 31)
-    }
-
-    /// A number from 0 to `n` - 1; `n` is above 0.
-    pub fn below(&mut self, n: u64) -> u64 {
-        self.throw() % n
-    }
-
-    /// A number from `least` to `most`.
-    pub fn between(&mut self, least: u64, most: u64) -> u64 {
-        least + self.below(most - least + 1)
-    }
-
-    pub fn one_in(&mut self, n: u64) -> bool {
-        self.below(n) == 0
-    }
-
-    pub fn one_of<T: Copy>(&mut self, list: &[T]) -> T {
-        list[self.below(list.len() as u64) as usize]
-    }
-
-    pub fn shuffle<T>(&mut self, list: &mut [T]) {
-        for i in (1..list.len()).rev() {
-            list.swap(i, self.below(i as u64 + 1) as usize);
-        }
-    }
-}
-
-/// Writes a capture field by field. Each field is also run, so that a scene can
-/// look at the state that its next field will meet.
-pub struct Author {
-    pub dice: Dice,
-    pub run: Run,
+/// Writes a capture field by field.
+struct Author {
+    dice: Dice,
+    run: Run,
     capture: Vec<u8>,
     fields: usize,
     count: usize,
@@ -69,7 +30,7 @@ impl Author {
     }
 
     /// Adds one field, unless the capture has all its fields.
-    pub fn write(&mut self, tag: u8, contents: &[u8]) {
+    fn write(&mut self, tag: u8, contents: &[u8]) {
         if self.fields == self.count {
             return;
         }
@@ -95,6 +56,37 @@ impl Author {
                 scene(self);
             }
         }
+    }
+}
+
+impl Stage for Author {
+    fn dice(&mut self) -> &mut Dice {
+        &mut self.dice
+    }
+
+    fn receiver(&self) -> &Receiver {
+        &self.run.receiver
+    }
+
+    /// "for each of 1 to 4 senders."
+    fn senders_most(&self) -> u64 {
+        4
+    }
+
+    fn setup(&mut self, wanted: &Setup) {
+        self.write(TAG_SETUP, &setup_contents(wanted));
+    }
+
+    fn message(&mut self, packet: &[u8]) {
+        self.write(TAG_MESSAGE, packet);
+    }
+
+    fn alive(&mut self, packet: &[u8]) {
+        self.write(TAG_ALIVE, packet);
+    }
+
+    fn clock(&mut self, ms: u64) {
+        self.write(TAG_CLOCK, &ms.to_be_bytes());
     }
 }
 

@@ -1,17 +1,17 @@
-//! The scenes of `second random`: each writes a few fields that lead the
-//! receiver to some edge of 01, whatever state it is in.
+//! The scenes of random pasts: each makes a few calls that lead the receiver to
+//! some edge of 01, whatever state it is in.
 
 use crate::alive;
 use crate::cut::{cut_piece, pieces, HeaderValues};
-use crate::fields::{setup_contents, TAG_ALIVE, TAG_CLOCK, TAG_MESSAGE, TAG_SETUP};
+use crate::dice::Dice;
 use crate::header::{self, Head, Place, HEADER};
 use crate::numbers::M;
 use crate::octets;
-use crate::random::{Author, Dice};
+use crate::stage::Stage;
 use crate::state::{Sender, Setup, CLOCK_MOST};
 
 /// One scene.
-pub type Scene = fn(&mut Author);
+pub type Scene = fn(&mut dyn Stage);
 
 /// The deck. A scene that stands twice is played twice as often.
 pub const SCENES: [Scene; 32] = [
@@ -98,12 +98,12 @@ fn any_seq(dice: &mut Dice) -> u32 {
 }
 
 /// A version that is not 0, nor the sender's last or open one.
-fn fresh_version(author: &mut Author, at: usize) -> u32 {
-    let sender = &author.run.receiver.senders[at];
+fn fresh_version(stage: &mut dyn Stage, at: usize) -> u32 {
+    let sender = &stage.receiver().senders[at];
     let taken = [0, sender.last_version, sender.message.version];
     loop {
-        let any = author.dice.throw() as u32;
-        let version = author.dice.one_of(&[1, 2, 5, 6, u32::MAX, any]);
+        let any = stage.dice().throw() as u32;
+        let version = stage.dice().one_of(&[1, 2, 5, 6, u32::MAX, any]);
         if !taken.contains(&version) {
             return version;
         }
@@ -111,19 +111,19 @@ fn fresh_version(author: &mut Author, at: usize) -> u32 {
 }
 
 /// A registered sender, by its place in the table.
-fn any_sender(author: &mut Author) -> usize {
-    let count = author.run.receiver.senders.len() as u64;
-    author.dice.below(count.max(1)) as usize
+fn any_sender(stage: &mut dyn Stage) -> usize {
+    let count = stage.receiver().senders.len() as u64;
+    stage.dice().below(count.max(1)) as usize
 }
 
-fn sender_at(author: &Author, at: usize) -> &Sender {
-    &author.run.receiver.senders[at]
+fn sender_at(stage: &dyn Stage, at: usize) -> &Sender {
+    &stage.receiver().senders[at]
 }
 
-fn plan(author: &mut Author, at: usize, version: u32, seq: u32) -> Plan {
-    let sender = sender_at(author, at);
+fn plan(stage: &mut dyn Stage, at: usize, version: u32, seq: u32) -> Plan {
+    let sender = sender_at(stage, at);
     let (field, node) = (sender.field, sender.node);
-    let dice = &mut author.dice;
+    let dice = stage.dice();
     let values = HeaderValues {
         field,
         node,
@@ -143,10 +143,10 @@ fn plan(author: &mut Author, at: usize, version: u32, seq: u32) -> Plan {
 }
 
 /// The same plan, with a message of one piece.
-fn short(author: &mut Author, plan: Plan) -> Plan {
-    let any = author.dice.below(1_397) as usize;
-    let n = author
-        .dice
+fn short(stage: &mut dyn Stage, plan: Plan) -> Plan {
+    let any = stage.dice().below(1_397) as usize;
+    let n = stage
+        .dice()
         .one_of(&[0, 1, 255, 256, 257, 1_395, 1_396, any, any]);
     Plan {
         n,
@@ -156,8 +156,8 @@ fn short(author: &mut Author, plan: Plan) -> Plan {
 }
 
 /// The same plan, with a message of 2 to 6 pieces.
-fn several(author: &mut Author, plan: Plan) -> Plan {
-    let dice = &mut author.dice;
+fn several(stage: &mut dyn Stage, plan: Plan) -> Plan {
+    let dice = stage.dice();
     let any = dice.between(256, 1_396);
     let u = dice.one_of(&[256, 257, 1_332, 1_395, 1_396, any]);
     let whole = dice.between(1, 5) * u;
@@ -171,16 +171,16 @@ fn several(author: &mut Author, plan: Plan) -> Plan {
 }
 
 /// One piece or several.
-fn of_any_size(author: &mut Author, plan: Plan) -> Plan {
-    if author.dice.one_in(2) {
-        short(author, plan)
+fn of_any_size(stage: &mut dyn Stage, plan: Plan) -> Plan {
+    if stage.dice().one_in(2) {
+        short(stage, plan)
     } else {
-        several(author, plan)
+        several(stage, plan)
     }
 }
 
-fn send(author: &mut Author, plan: &Plan, piece: usize) {
-    author.write(TAG_MESSAGE, &plan.pdu(piece));
+fn send(stage: &mut dyn Stage, plan: &Plan, piece: usize) {
+    stage.message(&plan.pdu(piece));
 }
 
 /// The pieces in random order, some of them twice.
@@ -199,55 +199,60 @@ fn order(dice: &mut Dice, pieces: usize) -> Vec<usize> {
     order
 }
 
-fn send_all(author: &mut Author, plan: &Plan) {
-    for piece in order(&mut author.dice, plan.pieces()) {
-        send(author, plan, piece);
+fn send_all(stage: &mut dyn Stage, plan: &Plan) {
+    for piece in order(stage.dice(), plan.pieces()) {
+        send(stage, plan, piece);
     }
 }
 
 /// Sends some pieces of a message of several, but not all: it stays open.
-fn send_some(author: &mut Author, plan: &Plan) -> Vec<usize> {
+fn send_some(stage: &mut dyn Stage, plan: &Plan) -> Vec<usize> {
     let mut pieces: Vec<usize> = (1..=plan.pieces()).collect();
-    author.dice.shuffle(&mut pieces);
-    let some = author.dice.between(1, plan.pieces() as u64 - 1) as usize;
+    stage.dice().shuffle(&mut pieces);
+    let some = stage.dice().between(1, plan.pieces() as u64 - 1) as usize;
     for piece in &pieces[..some] {
-        send(author, plan, *piece);
+        send(stage, plan, *piece);
     }
     pieces
 }
 
 /// A sender with a last version not 0 and nothing open.
-fn settled(author: &mut Author) -> usize {
-    let at = any_sender(author);
-    let sender = sender_at(author, at);
+fn settled(stage: &mut dyn Stage) -> usize {
+    let at = any_sender(stage);
+    let sender = sender_at(stage, at);
     if sender.open || sender.last_version == 0 {
-        let version = fresh_version(author, at);
-        let seq = any_seq(&mut author.dice);
-        let plan = plan(author, at, version, seq);
-        let plan = short(author, plan);
-        send(author, &plan, 1);
+        let version = fresh_version(stage, at);
+        let seq = any_seq(stage.dice());
+        let plan = plan(stage, at, version, seq);
+        let plan = short(stage, plan);
+        send(stage, &plan, 1);
     }
     at
 }
 
 /// A plan under a settled sender's last version, `steps` after its last number.
-fn following(author: &mut Author, at: usize, steps: u64) -> Plan {
-    let sender = sender_at(author, at);
+fn following(stage: &mut dyn Stage, at: usize, steps: u64) -> Plan {
+    let sender = sender_at(stage, at);
     let (version, last) = (sender.last_version, sender.last_number.max(1));
-    plan(author, at, version, after(last, steps))
+    plan(stage, at, version, after(last, steps))
 }
 
-fn tick(author: &mut Author, ms: u64) {
-    let now = author.run.receiver.clock;
-    author.write(TAG_CLOCK, &now.saturating_add(ms).to_be_bytes());
+fn tick(stage: &mut dyn Stage, ms: u64) {
+    let now = stage.receiver().clock;
+    stage.clock(now.saturating_add(ms));
 }
 
 // ---- setups ----
 
-fn good_setup(dice: &mut Dice) -> Setup {
+fn good_setup(stage: &mut dyn Stage) -> Setup {
+    let most = stage.senders_most();
+    let dice = stage.dice();
+    let count = dice.between(1, most) as usize;
     let mut senders = Vec::new();
-    for _ in 0..dice.between(1, 4) {
-        let pair = (dice.one_of(&[1, 2, 255]), dice.one_of(&[1, 2, 7, 9, 4_095]));
+    while senders.len() < count {
+        let any = dice.between(1, 4_095) as u16;
+        let node = dice.one_of(&[1, 2, 7, 9, 4_095, any]);
+        let pair = (dice.one_of(&[1, 2, 255]), node);
         if !senders.contains(&pair) {
             senders.push(pair);
         }
@@ -260,14 +265,15 @@ fn good_setup(dice: &mut Dice) -> Setup {
     }
 }
 
-pub fn new_setup(author: &mut Author) {
-    let setup = good_setup(&mut author.dice);
-    author.write(TAG_SETUP, &setup_contents(&setup));
+pub fn new_setup(stage: &mut dyn Stage) {
+    let setup = good_setup(stage);
+    stage.setup(&setup);
 }
 
-fn refused_setup(author: &mut Author) {
-    let dice = &mut author.dice;
-    let mut setup = good_setup(dice);
+pub fn refused_setup(stage: &mut dyn Stage) {
+    let mut setup = good_setup(stage);
+    let room = stage.senders_most() as usize - setup.senders.len();
+    let dice = stage.dice();
     for _ in 0..dice.between(1, 2) {
         let last = setup.senders.len() - 1;
         match dice.below(6) {
@@ -276,23 +282,24 @@ fn refused_setup(author: &mut Author) {
             2 => setup.t = dice.one_of(&[0, 600_001, u32::MAX]),
             3 => setup.senders[last].0 = 0,
             4 => setup.senders[last].1 = dice.one_of(&[0, 4_096, 65_535]),
-            _ if last < 3 => setup.senders.push(setup.senders[0]),
+            // A pair twice: two such turns need room for two more.
+            _ if room >= 2 => setup.senders.push(setup.senders[0]),
             _ => setup.senders[last] = setup.senders[0],
         }
     }
-    author.write(TAG_SETUP, &setup_contents(&setup));
+    stage.setup(&setup);
 }
 
 /// Fields that meet the empty state.
-pub fn before_setup(author: &mut Author) {
-    tick(author, 5);
-    author.write(TAG_MESSAGE, &[]);
-    author.write(TAG_MESSAGE, &a_pdu_of_nobody());
-    refused_setup(author);
-    tick(author, 0);
-    author.write(TAG_CLOCK, &0u64.to_be_bytes());
-    let alive = alive_pdu(&mut author.dice, (1, 7), 1, 0, 128);
-    author.write(TAG_ALIVE, &alive);
+pub fn before_setup(stage: &mut dyn Stage) {
+    tick(stage, 5);
+    stage.message(&[]);
+    stage.message(&a_pdu_of_nobody());
+    refused_setup(stage);
+    tick(stage, 0);
+    stage.clock(0u64);
+    let alive = alive_pdu(stage.dice(), (1, 7), 1, 0, 128);
+    stage.alive(&alive);
 }
 
 fn a_pdu_of_nobody() -> Vec<u8> {
@@ -315,119 +322,119 @@ fn a_pdu_of_nobody() -> Vec<u8> {
 
 // ---- messages that are joined and delivered ----
 
-fn short_messages(author: &mut Author) {
-    let at = settled(author);
-    for _ in 0..author.dice.between(1, 4) {
-        let next = following(author, at, 1);
-        let next = short(author, next);
-        send(author, &next, 1);
+fn short_messages(stage: &mut dyn Stage) {
+    let at = settled(stage);
+    for _ in 0..stage.dice().between(1, 4) {
+        let next = following(stage, at, 1);
+        let next = short(stage, next);
+        send(stage, &next, 1);
     }
 }
 
-fn joined_message(author: &mut Author) {
-    let at = settled(author);
-    let next = following(author, at, 1);
-    let next = several(author, next);
-    send_all(author, &next);
-    let late = author.dice.between(1, next.pieces() as u64) as usize;
-    send(author, &next, late);
+fn joined_message(stage: &mut dyn Stage) {
+    let at = settled(stage);
+    let next = following(stage, at, 1);
+    let next = several(stage, next);
+    send_all(stage, &next);
+    let late = stage.dice().between(1, next.pieces() as u64) as usize;
+    send(stage, &next, late);
 }
 
 /// Two messages of two senders, their pieces in one another's midst, with clock
 /// calls between them.
-fn two_senders(author: &mut Author) {
-    let (one, other) = (settled(author), settled(author));
+fn two_senders(stage: &mut dyn Stage) {
+    let (one, other) = (settled(stage), settled(stage));
     let mut sent: Vec<(Plan, usize)> = Vec::new();
     for at in [one, other] {
-        let next = following(author, at, 1);
-        let next = several(author, next);
-        let order = order(&mut author.dice, next.pieces());
+        let next = following(stage, at, 1);
+        let next = several(stage, next);
+        let order = order(stage.dice(), next.pieces());
         let mut place = 0;
         for piece in order {
-            place = author.dice.between(place, sent.len() as u64);
+            place = stage.dice().between(place, sent.len() as u64);
             sent.insert(place as usize, (next.clone(), piece));
         }
     }
     for (plan, piece) in sent {
-        if author.dice.one_in(6) {
-            let ms = author.dice.below(400);
-            tick(author, ms);
+        if stage.dice().one_in(6) {
+            let ms = stage.dice().below(400);
+            tick(stage, ms);
         }
-        send(author, &plan, piece);
+        send(stage, &plan, piece);
     }
 }
 
-fn twelve_pieces(author: &mut Author) {
-    longest(author, 1_396);
+fn twelve_pieces(stage: &mut dyn Stage) {
+    longest(stage, 1_396);
 }
 
-fn sixty_four_pieces(author: &mut Author) {
-    if author.dice.one_in(2) {
-        longest(author, 256);
+fn sixty_four_pieces(stage: &mut dyn Stage) {
+    if stage.dice().one_in(2) {
+        longest(stage, 256);
     }
 }
 
-fn longest(author: &mut Author, u: usize) {
-    let at = settled(author);
-    let next = following(author, at, 1);
+fn longest(stage: &mut dyn Stage, u: usize) {
+    let at = settled(stage);
+    let next = following(stage, at, 1);
     let next = Plan {
         n: 16_384,
         u,
         ..next
     };
-    send_all(author, &next);
+    send_all(stage, &next);
 }
 
 // ---- the number check ----
 
-fn gap(author: &mut Author) {
-    let at = settled(author);
-    let far = author.dice.between(2, u64::from(M) - 2_000);
-    let steps = author.dice.one_of(&[2, 3, 4, far]);
-    let ahead = following(author, at, steps);
-    let ahead = of_any_size(author, ahead);
-    send_all(author, &ahead);
+fn gap(stage: &mut dyn Stage) {
+    let at = settled(stage);
+    let far = stage.dice().between(2, u64::from(M) - 2_000);
+    let steps = stage.dice().one_of(&[2, 3, 4, far]);
+    let ahead = following(stage, at, steps);
+    let ahead = of_any_size(stage, ahead);
+    send_all(stage, &ahead);
 }
 
-fn restart(author: &mut Author) {
-    let at = settled(author);
-    let version = fresh_version(author, at);
-    let seq = any_seq(&mut author.dice);
-    let anew = plan(author, at, version, seq);
-    let anew = of_any_size(author, anew);
-    send_all(author, &anew);
+fn restart(stage: &mut dyn Stage) {
+    let at = settled(stage);
+    let version = fresh_version(stage, at);
+    let seq = any_seq(stage.dice());
+    let anew = plan(stage, at, version, seq);
+    let anew = of_any_size(stage, anew);
+    send_all(stage, &anew);
 }
 
 /// V_SEQ 0 with SEQ 1, again and again.
-fn unchecked(author: &mut Author) {
-    let at = any_sender(author);
-    for _ in 0..author.dice.between(1, 3) {
-        let free = plan(author, at, 0, 1);
-        let free = of_any_size(author, free);
-        send_all(author, &free);
+fn unchecked(stage: &mut dyn Stage) {
+    let at = any_sender(stage);
+    for _ in 0..stage.dice().between(1, 3) {
+        let free = plan(stage, at, 0, 1);
+        let free = of_any_size(stage, free);
+        send_all(stage, &free);
     }
-    let next = following(author, at, 1);
-    send(author, &next, 1);
+    let next = following(stage, at, 1);
+    send(stage, &next, 1);
 }
 
 /// V_SEQ 0 with SEQ not 1: the last version becomes 0, the next one is first.
-fn version_nought(author: &mut Author) {
-    let at = settled(author);
+fn version_nought(stage: &mut dyn Stage) {
+    let at = settled(stage);
     for seq in [2, 2, 7, M] {
-        let nought = plan(author, at, 0, seq);
-        send(author, &nought, 1);
+        let nought = plan(stage, at, 0, seq);
+        send(stage, &nought, 1);
     }
-    let version = fresh_version(author, at);
-    let first = plan(author, at, version, 7);
-    send(author, &first, 1);
+    let version = fresh_version(stage, at);
+    let first = plan(stage, at, version, 7);
+    send(stage, &first, 1);
 }
 
 /// The repeats' window, on both sides of both its ends.
-fn window_edges(author: &mut Author) {
-    let at = settled(author);
-    let n1 = u64::from(author.run.receiver.n1);
+fn window_edges(stage: &mut dyn Stage) {
+    let at = settled(stage);
+    let n1 = u64::from(stage.receiver().n1);
     for _ in 0..4 {
-        let sender = sender_at(author, at);
+        let sender = sender_at(stage, at);
         let (version, last) = (sender.last_version, sender.last_number.max(1));
         let edges = [
             last,
@@ -437,152 +444,152 @@ fn window_edges(author: &mut Author) {
             after(last, 1),
             after(last, 2),
         ];
-        let seq = author.dice.one_of(&edges);
-        let edge = plan(author, at, version, seq);
-        let edge = of_any_size(author, edge);
-        send(author, &edge, 1);
+        let seq = stage.dice().one_of(&edges);
+        let edge = plan(stage, at, version, seq);
+        let edge = of_any_size(stage, edge);
+        send(stage, &edge, 1);
     }
 }
 
 /// Numbers on both sides of the ring's ends.
-fn ring_ends(author: &mut Author) {
-    let at = settled(author);
-    let version = fresh_version(author, at);
-    let start = author.dice.one_of(&[1, 2, 3, M - 2, M - 1, M]);
-    let anew = plan(author, at, version, start);
-    send(author, &anew, 1);
-    for _ in 0..author.dice.between(2, 6) {
-        let steps = author
-            .dice
+fn ring_ends(stage: &mut dyn Stage) {
+    let at = settled(stage);
+    let version = fresh_version(stage, at);
+    let start = stage.dice().one_of(&[1, 2, 3, M - 2, M - 1, M]);
+    let anew = plan(stage, at, version, start);
+    send(stage, &anew, 1);
+    for _ in 0..stage.dice().between(2, 6) {
+        let steps = stage
+            .dice()
             .one_of(&[1, 1, 1, 2, 3, u64::from(M) - 1, u64::from(M) - 4]);
-        let near = following(author, at, steps);
-        let near = of_any_size(author, near);
-        send_all(author, &near);
+        let near = following(stage, at, steps);
+        let near = of_any_size(stage, near);
+        send_all(stage, &near);
     }
 }
 
 // ---- drops and refusals beside an open message ----
 
 /// Opens a message of several pieces and leaves it open.
-fn open_one(author: &mut Author, steps: u64) -> (usize, Plan, Vec<usize>) {
-    let at = settled(author);
-    let opened = following(author, at, steps);
-    let opened = several(author, opened);
-    let pieces = send_some(author, &opened);
+fn open_one(stage: &mut dyn Stage, steps: u64) -> (usize, Plan, Vec<usize>) {
+    let at = settled(stage);
+    let opened = following(stage, at, steps);
+    let opened = several(stage, opened);
+    let pieces = send_some(stage, &opened);
     (at, opened, pieces)
 }
 
-fn newer_drops(author: &mut Author) {
-    let (_, opened, pieces) = open_one(author, 1);
+fn newer_drops(stage: &mut dyn Stage) {
+    let (_, opened, pieces) = open_one(stage, 1);
     let mut newer = opened.clone();
     newer.values.seq = after(newer.values.seq, 1);
-    let newer = of_any_size(author, newer);
-    send(author, &newer, 1);
-    send(author, &opened, pieces[0]);
-    send_all(author, &newer);
+    let newer = of_any_size(stage, newer);
+    send(stage, &newer, 1);
+    send(stage, &opened, pieces[0]);
+    send_all(stage, &newer);
 }
 
-fn other_version_drops(author: &mut Author) {
-    let (at, opened, pieces) = open_one(author, 1);
+fn other_version_drops(stage: &mut dyn Stage) {
+    let (at, opened, pieces) = open_one(stage, 1);
     let mut other = opened.clone();
-    other.values.version = fresh_version(author, at);
-    if author.dice.one_in(3) {
+    other.values.version = fresh_version(stage, at);
+    if stage.dice().one_in(3) {
         (other.values.version, other.values.seq) = (0, 1);
     }
-    let other = of_any_size(author, other);
-    send(author, &other, 1);
-    send(author, &opened, pieces[0]);
-    send_all(author, &opened);
+    let other = of_any_size(stage, other);
+    send(stage, &other, 1);
+    send(stage, &opened, pieces[0]);
+    send_all(stage, &opened);
 }
 
-fn older_refused(author: &mut Author) {
-    let (_, opened, pieces) = open_one(author, 10);
+fn older_refused(stage: &mut dyn Stage) {
+    let (_, opened, pieces) = open_one(stage, 10);
     for back in [1, 5, 9, 10] {
         let mut older = opened.clone();
         older.values.seq = before(older.values.seq, back);
-        let older = of_any_size(author, older);
-        send(author, &older, 1);
+        let older = of_any_size(stage, older);
+        send(stage, &older, 1);
     }
     for piece in pieces {
-        send(author, &opened, piece);
+        send(stage, &opened, piece);
     }
 }
 
 /// The open message's version and number, but another code or cut.
-fn unlike_open(author: &mut Author) {
-    let (_, opened, _) = open_one(author, 1);
+fn unlike_open(stage: &mut dyn Stage) {
+    let (_, opened, _) = open_one(stage, 1);
     for _ in 0..3 {
         let mut unlike = opened.clone();
-        match author.dice.below(5) {
+        match stage.dice().below(5) {
             0 => unlike.values.tcd = 3,
             1 if unlike.n % unlike.u > 1 => unlike.n -= 1,
             2 => unlike.n = (unlike.n + unlike.u).min(16_384),
             3 => (unlike.n, unlike.u) = (700, 300),
             _ => unlike.n = 100,
         }
-        let piece = author.dice.between(1, unlike.pieces() as u64);
-        send(author, &unlike, piece as usize);
+        let piece = stage.dice().between(1, unlike.pieces() as u64);
+        send(stage, &unlike, piece as usize);
     }
-    send_all(author, &opened);
+    send_all(stage, &opened);
 }
 
 /// A piece once more, with other values that nobody compares.
-fn held_twice(author: &mut Author) {
-    let (_, mut opened, pieces) = open_one(author, 1);
+fn held_twice(stage: &mut dyn Stage) {
+    let (_, mut opened, pieces) = open_one(stage, 1);
     opened.values.pri = 7;
     opened.values.da ^= 1;
     opened.values.m_ctl ^= 1;
-    send(author, &opened, pieces[0]);
+    send(stage, &opened, pieces[0]);
     for piece in pieces {
-        send(author, &opened, piece);
+        send(stage, &opened, piece);
     }
 }
 
 // ---- clock and alive signals ----
 
 /// Both sides of the drop time, sometimes with a piece that sets the stamp anew.
-fn dropped_by_clock(author: &mut Author) {
-    let t = u64::from(author.run.receiver.t);
-    let (_, opened, pieces) = open_one(author, 1);
-    tick(author, t - 1);
-    if author.dice.one_in(2) {
+fn dropped_by_clock(stage: &mut dyn Stage) {
+    let t = u64::from(stage.receiver().t);
+    let (_, opened, pieces) = open_one(stage, 1);
+    tick(stage, t - 1);
+    if stage.dice().one_in(2) {
         let unheld = pieces[pieces.len() - 1];
-        send(author, &opened, unheld);
-        tick(author, t - 1);
+        send(stage, &opened, unheld);
+        tick(stage, t - 1);
     }
-    tick(author, 1);
-    tick(author, 0);
-    send(author, &opened, pieces[0]);
+    tick(stage, 1);
+    tick(stage, 0);
+    send(stage, &opened, pieces[0]);
 }
 
 /// Both sides of a sender's time.
-fn dead_by_clock(author: &mut Author) {
-    let at = any_sender(author);
-    let any = author.dice.between(3, 200);
-    let timeout = author.dice.one_of(&[0, 1, 2, 60, any]);
-    hear(author, at, 1, timeout as u32);
+fn dead_by_clock(stage: &mut dyn Stage) {
+    let at = any_sender(stage);
+    let any = stage.dice().between(3, 200);
+    let timeout = stage.dice().one_of(&[0, 1, 2, 60, any]);
+    hear(stage, at, 1, timeout as u32);
     let ms = 1_000 * timeout;
     if ms > 0 {
-        let early = author.dice.below(ms);
-        tick(author, early);
-        if author.dice.one_in(3) {
-            hear(author, at, 1, timeout as u32);
-            tick(author, ms - 1);
+        let early = stage.dice().below(ms);
+        tick(stage, early);
+        if stage.dice().one_in(3) {
+            hear(stage, at, 1, timeout as u32);
+            tick(stage, ms - 1);
         } else {
-            tick(author, ms - 1 - early);
+            tick(stage, ms - 1 - early);
         }
-        tick(author, 1);
+        tick(stage, 1);
     } else {
-        tick(author, 0);
+        tick(stage, 0);
     }
 }
 
-fn clock_edges(author: &mut Author) {
-    let ms = author.dice.between(1, 100);
-    tick(author, ms);
+fn clock_edges(stage: &mut dyn Stage) {
+    let ms = stage.dice().between(1, 100);
+    tick(stage, ms);
     for _ in 0..3 {
-        let now = author.run.receiver.clock;
-        let back = author.dice.below(now.max(1));
+        let now = stage.receiver().clock;
+        let back = stage.dice().below(now.max(1));
         let edges = [
             now,
             now.saturating_sub(1),
@@ -591,25 +598,25 @@ fn clock_edges(author: &mut Author) {
             CLOCK_MOST + 1,
             u64::MAX,
         ];
-        let ms = author.dice.one_of(&edges);
-        author.write(TAG_CLOCK, &ms.to_be_bytes());
+        let ms = stage.dice().one_of(&edges);
+        stage.clock(ms);
     }
 }
 
 /// The clock's limit, and a setup that brings it back to 0.
-fn clock_far(author: &mut Author) {
-    if !author.dice.one_in(3) {
+fn clock_far(stage: &mut dyn Stage) {
+    if !stage.dice().one_in(3) {
         return;
     }
-    let at = any_sender(author);
-    let timeout = author
-        .dice
+    let at = any_sender(stage);
+    let timeout = stage
+        .dice()
         .one_of(&[1_099_511_627, 1_099_511_628, u32::MAX]);
-    hear(author, at, 1, timeout);
+    hear(stage, at, 1, timeout);
     for ms in [CLOCK_MOST - 777, CLOCK_MOST + 1, CLOCK_MOST, CLOCK_MOST + 1] {
-        author.write(TAG_CLOCK, &ms.to_be_bytes());
+        stage.clock(ms);
     }
-    new_setup(author);
+    new_setup(stage);
 }
 
 fn alive_pdu(dice: &mut Dice, from: (u8, u16), mode: u8, timeout: u32, size: u16) -> Vec<u8> {
@@ -638,40 +645,40 @@ fn alive_pdu(dice: &mut Dice, from: (u8, u16), mode: u8, timeout: u32, size: u16
     pdu
 }
 
-fn good_alive(author: &mut Author, at: usize, mode: u8, timeout: u32) -> Vec<u8> {
-    let sender = sender_at(author, at);
+fn good_alive(stage: &mut dyn Stage, at: usize, mode: u8, timeout: u32) -> Vec<u8> {
+    let sender = sender_at(stage, at);
     let from = (sender.field, sender.node);
-    let any = author.dice.between(128, 1_472) as u16;
-    let size = author.dice.one_of(&[128, 128, 128, 129, 1_472, any]);
-    alive_pdu(&mut author.dice, from, mode, timeout, size)
+    let any = stage.dice().between(128, 1_472) as u16;
+    let size = stage.dice().one_of(&[128, 128, 128, 129, 1_472, any]);
+    alive_pdu(stage.dice(), from, mode, timeout, size)
 }
 
-fn hear(author: &mut Author, at: usize, mode: u8, timeout: u32) {
-    let pdu = good_alive(author, at, mode, timeout);
-    author.write(TAG_ALIVE, &pdu);
+fn hear(stage: &mut dyn Stage, at: usize, mode: u8, timeout: u32) {
+    let pdu = good_alive(stage, at, mode, timeout);
+    stage.alive(&pdu);
 }
 
-fn alive_modes(author: &mut Author) {
+fn alive_modes(stage: &mut dyn Stage) {
     for _ in 0..4 {
-        let at = any_sender(author);
-        let mode = author.dice.between(1, 3) as u8;
-        let timeout = author.dice.one_of(&[0, 1, 60, u32::MAX]);
-        hear(author, at, mode, timeout);
-        if author.dice.one_in(3) {
-            let ms = author.dice.one_of(&[0, 999, 1_000, 60_000]);
-            tick(author, ms);
+        let at = any_sender(stage);
+        let mode = stage.dice().between(1, 3) as u8;
+        let timeout = stage.dice().one_of(&[0, 1, 60, u32::MAX]);
+        hear(stage, at, mode, timeout);
+        if stage.dice().one_in(3) {
+            let ms = stage.dice().one_of(&[0, 999, 1_000, 60_000]);
+            tick(stage, ms);
         }
     }
 }
 
-fn damaged_alive(author: &mut Author) {
+fn damaged_alive(stage: &mut dyn Stage) {
     for _ in 0..4 {
-        let at = any_sender(author);
-        let mut pdu = good_alive(author, at, 1, 60);
-        for _ in 0..author.dice.one_of(&[1, 1, 2]) {
-            damage_alive(&mut author.dice, &mut pdu);
+        let at = any_sender(stage);
+        let mut pdu = good_alive(stage, at, 1, 60);
+        for _ in 0..stage.dice().one_of(&[1, 1, 2]) {
+            damage_alive(stage.dice(), &mut pdu);
         }
-        author.write(TAG_ALIVE, &pdu);
+        stage.alive(&pdu);
     }
 }
 
@@ -709,21 +716,21 @@ fn resize(pdu: &mut Vec<u8>, length: usize) {
 // ---- damaged and strange PDUs ----
 
 /// A PDU that would be stored or delivered.
-fn good_pdu(author: &mut Author) -> Vec<u8> {
-    let at = settled(author);
-    let next = following(author, at, 1);
-    let next = of_any_size(author, next);
-    let piece = author.dice.between(1, next.pieces() as u64);
+fn good_pdu(stage: &mut dyn Stage) -> Vec<u8> {
+    let at = settled(stage);
+    let next = following(stage, at, 1);
+    let next = of_any_size(stage, next);
+    let piece = stage.dice().between(1, next.pieces() as u64);
     next.pdu(piece as usize)
 }
 
-fn damaged_pdu(author: &mut Author) {
+fn damaged_pdu(stage: &mut dyn Stage) {
     for _ in 0..6 {
-        let mut pdu = good_pdu(author);
-        for _ in 0..author.dice.one_of(&[1, 1, 2]) {
-            damage_header(&mut author.dice, &mut pdu);
+        let mut pdu = good_pdu(stage);
+        for _ in 0..stage.dice().one_of(&[1, 1, 2]) {
+            damage_header(stage.dice(), &mut pdu);
         }
-        author.write(TAG_MESSAGE, &pdu);
+        stage.message(&pdu);
     }
 }
 
@@ -758,56 +765,56 @@ fn damage_header(dice: &mut Dice, pdu: &mut [u8]) {
 }
 
 /// Test messages: refused by an online node, taken by a test node.
-fn test_message(author: &mut Author) {
-    let at = settled(author);
-    let mut next = following(author, at, 1);
+fn test_message(stage: &mut dyn Stage) {
+    let at = settled(stage);
+    let mut next = following(stage, at, 1);
     next.values.mode = header::TEST;
-    let next = of_any_size(author, next);
-    send_all(author, &next);
+    let next = of_any_size(stage, next);
+    send_all(stage, &next);
 }
 
 /// PDUs from senders that are not registered.
-fn stranger(author: &mut Author) {
+fn stranger(stage: &mut dyn Stage) {
     for _ in 0..2 {
-        let mut pdu = good_pdu(author);
-        let at = any_sender(author);
-        let mut signal = good_alive(author, at, 1, 60);
+        let mut pdu = good_pdu(stage);
+        let at = any_sender(stage);
+        let mut signal = good_alive(stage, at, 1, 60);
         for pdu in [&mut pdu, &mut signal] {
             let node = get(pdu, header::SA_NODE);
-            match author.dice.below(4) {
-                0 => put(pdu, header::SA_FIELD, author.dice.one_of(&[0, 3, 254])),
-                1 => put(pdu, header::SA_NODE, author.dice.one_of(&[0, 3, 65_535])),
+            match stage.dice().below(4) {
+                0 => put(pdu, header::SA_FIELD, stage.dice().one_of(&[0, 3, 254])),
+                1 => put(pdu, header::SA_NODE, stage.dice().one_of(&[0, 3, 65_535])),
                 2 => put(pdu, header::SA_NODE, node ^ 0x1000),
                 _ => put(pdu, header::SA_DOMAIN, 1),
             }
         }
-        author.write(TAG_MESSAGE, &pdu);
-        author.write(TAG_ALIVE, &signal);
+        stage.message(&pdu);
+        stage.alive(&signal);
     }
 }
 
 /// Lengths on both sides of their limits, and unlike BSIZE.
-fn length_edges(author: &mut Author) {
+fn length_edges(stage: &mut dyn Stage) {
     for _ in 0..4 {
-        let mut pdu = good_pdu(author);
-        match author.dice.below(4) {
-            0 => resize(&mut pdu, author.dice.one_of(&[64, 1_460, 1_461, 5_000])),
-            1 => pdu.truncate(author.dice.one_of(&[0, 1, 59, 60, 63])),
+        let mut pdu = good_pdu(stage);
+        match stage.dice().below(4) {
+            0 => resize(&mut pdu, stage.dice().one_of(&[64, 1_460, 1_461, 5_000])),
+            1 => pdu.truncate(stage.dice().one_of(&[0, 1, 59, 60, 63])),
             2 => pdu.push(0),
             _ => {
                 pdu.pop();
             }
         }
-        author.write(TAG_MESSAGE, &pdu);
+        stage.message(&pdu);
     }
 }
 
 /// Cuts on both sides of what is possible.
-fn impossible_cut(author: &mut Author) {
+fn impossible_cut(stage: &mut dyn Stage) {
     for _ in 0..4 {
-        let mut pdu = good_pdu(author);
+        let mut pdu = good_pdu(stage);
         let (ml, tbn) = (get(&pdu, header::ML), get(&pdu, header::TBN));
-        let dice = &mut author.dice;
+        let dice = stage.dice();
         match dice.below(6) {
             0 => put(&mut pdu, header::CBN, dice.one_of(&[0, tbn + 1, 255])),
             1 => put(
@@ -828,7 +835,7 @@ fn impossible_cut(author: &mut Author) {
                 put(&mut pdu, header::ML, n + 64);
             }
         }
-        author.write(TAG_MESSAGE, &pdu);
+        stage.message(&pdu);
     }
 }
 
@@ -839,10 +846,10 @@ fn other_length(pdu: &mut Vec<u8>, length: usize) {
 }
 
 /// Random octets, or a good PDU with some octets of its header changed.
-fn noise(author: &mut Author) {
+fn noise(stage: &mut dyn Stage) {
     for _ in 0..3 {
-        let mut pdu = good_pdu(author);
-        let dice = &mut author.dice;
+        let mut pdu = good_pdu(stage);
+        let dice = stage.dice();
         if dice.one_in(3) {
             let length = dice.below(200);
             pdu = (0..length).map(|_| dice.throw() as u8).collect();
@@ -852,7 +859,9 @@ fn noise(author: &mut Author) {
                 pdu[at] = dice.throw() as u8;
             }
         }
-        let tag = dice.one_of(&[TAG_MESSAGE, TAG_MESSAGE, TAG_ALIVE]);
-        author.write(tag, &pdu);
+        match dice.below(3) {
+            2 => stage.alive(&pdu),
+            _ => stage.message(&pdu),
+        }
     }
 }

@@ -1,7 +1,7 @@
 //! "The calls as fields": the contents of each field, a call with all its octets.
 //! "numbers have the high octet first".
 
-use super::past::{record as values_of, senders};
+use super::table::{senders, values_of};
 use crate::cut::HeaderValues;
 use crate::state::{Receiver, Sender, SENDERS_MOST};
 

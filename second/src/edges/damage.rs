@@ -2,8 +2,9 @@
 //! first, so each of the four is made on each of them.
 
 use super::calls;
-use super::past::{senders, Past};
+use super::past::Past;
 use super::pdu;
+use super::table::senders;
 use crate::state::{OpenMessage, Receiver, Sender, AREA};
 
 pub fn sections(past: &mut Past) {

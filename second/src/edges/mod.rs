@@ -15,6 +15,7 @@ mod parts_and_fields;
 mod past;
 mod pdu;
 mod single;
+mod table;
 
 use past::Past;
 

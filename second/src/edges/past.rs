@@ -2,6 +2,7 @@
 
 use super::calls;
 use super::pdu::{self, Laid};
+use super::table::{senders, values_of};
 use crate::alive::alive;
 use crate::clock::clock;
 use crate::fields::field;
@@ -182,44 +183,10 @@ impl Past {
     }
 }
 
-/// "place 0 is 1:7, place 1 is field:node, place i from 2 is (1 + i):(7 + i);
-/// the first count places are given."
-pub fn senders(count: u32, second: (u8, u16)) -> Vec<(u8, u16)> {
-    let sender = |place: u32| match place {
-        1 => second,
-        _ => ((1 + place) as u8, (7 + place) as u16),
-    };
-    (0..count).map(sender).collect()
-}
-
 /// "w place field node rv r open version number tcd n tbn u map stamp alive
 /// heard-stamp al_tm_out".
 fn sender_line((place, sender): (usize, &Sender)) -> String {
-    format!("w {}", joined(&record(place, sender)))
-}
-
-/// All values of a sender's record, "in the order of the w line".
-pub fn record(place: usize, sender: &Sender) -> [u64; 17] {
-    let open = &sender.message;
-    [
-        place as u64,
-        sender.field.into(),
-        sender.node.into(),
-        sender.last_version.into(),
-        sender.last_number.into(),
-        sender.open.into(),
-        open.version.into(),
-        open.seq.into(),
-        open.tcd.into(),
-        open.n.into(),
-        open.tbn.into(),
-        open.u.into(),
-        open.map,
-        open.stamp,
-        sender.alive.into(),
-        sender.alive_stamp,
-        sender.al_tm_out.into(),
-    ]
+    format!("w {}", joined(&values_of(place, sender)))
 }
 
 /// "one blank between".
@@ -247,12 +214,5 @@ mod tests {
         // 31 x 6760 + 255 = 209815, and so on past 2^32 = 4294967296:
         // 6504265, 201632215, 6250598665 - 4294967296 = 1955631369.
         assert_eq!(sum(&[1, 2, 255, 0, 0, 0]), 1_955_631_369);
-    }
-
-    #[test]
-    fn tables_of_senders() {
-        assert_eq!(senders(0, (2, 9)), []);
-        assert_eq!(senders(3, (2, 9)), [(1, 7), (2, 9), (3, 9)]);
-        assert_eq!(senders(17, (2, 8))[16], (17, 23));
     }
 }
