@@ -170,11 +170,14 @@ fn piece_held(sender: &Sender, head: &Head) -> bool {
 }
 
 /// 01: "A message of one piece is delivered at once and storage is untouched."
-/// A one-piece newcomer drops what is open.
+/// A one-piece newcomer drops what is open; after any delivery "nothing is then
+/// open", and the record of a message not open is "written 0", whatever stood
+/// there.
 fn admit_whole(receiver: &mut Receiver, at: usize, head: &Head) -> MessageAnswer {
     let n1 = receiver.n1;
     let sender = &mut receiver.senders[at];
     let (dropped_version, dropped_number) = drop_other(sender, head);
+    sender.close();
     let (verdict, skipped) = deliver(sender, head, n1);
     MessageAnswer {
         verdict,
