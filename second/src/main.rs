@@ -11,6 +11,8 @@ const USAGE: &str = "usage: second run < capture
        second random-cut SEED > capture
        second edges
        second edges-calls > calls
+       second edges-random SEED COUNT
+       second edges-random-calls SEED COUNT > calls
        second tally < lines
 ";
 
@@ -32,6 +34,14 @@ fn main() -> ExitCode {
         },
         ["edges"] => output(edges::lines().as_bytes()),
         ["edges-calls"] => output(&edges::calls_as_fields()),
+        ["edges-random", seed, count] => match (seed.parse(), count.parse()) {
+            (Ok(seed), Ok(count)) => output(edges::random::lines(seed, count).as_bytes()),
+            _ => return usage(),
+        },
+        ["edges-random-calls", seed, count] => match (seed.parse(), count.parse()) {
+            (Ok(seed), Ok(count)) => output(&edges::random::calls_as_fields(seed, count)),
+            _ => return usage(),
+        },
         ["tally"] => input_text()
             .and_then(|lines| counts::counts(&lines))
             .and_then(|counts| output(counts.as_bytes())),

@@ -51,18 +51,18 @@ pub const SCENES: [Scene; 32] = [
 
 /// A message that some sender means to send.
 #[derive(Clone)]
-struct Plan {
-    values: HeaderValues,
-    n: usize,
-    u: usize,
+pub struct Plan {
+    pub values: HeaderValues,
+    pub n: usize,
+    pub u: usize,
 }
 
 impl Plan {
-    fn pieces(&self) -> usize {
+    pub fn pieces(&self) -> usize {
         pieces(self.n, self.u)
     }
 
-    fn pdu(&self, piece: usize) -> Vec<u8> {
+    pub fn pdu(&self, piece: usize) -> Vec<u8> {
         let message: Vec<u8> = (0..self.n).map(|i| (i % 251) as u8).collect();
         let mut buffer = vec![0; 1_460];
         let answer = cut_piece(&self.values, &message, self.u, piece, &mut buffer);
@@ -78,11 +78,11 @@ fn after(seq: u32, steps: u64) -> u32 {
 }
 
 /// The number `steps` before `seq` on the ring 1 to M.
-fn before(seq: u32, steps: u64) -> u32 {
+pub fn before(seq: u32, steps: u64) -> u32 {
     after(seq, u64::from(M) - steps)
 }
 
-fn put(pdu: &mut [u8], place: Place, number: u64) {
+pub fn put(pdu: &mut [u8], place: Place, number: u64) {
     octets::write(pdu, place.start, place.size, number);
 }
 
@@ -111,7 +111,7 @@ fn fresh_version(stage: &mut dyn Stage, at: usize) -> u32 {
 }
 
 /// A registered sender, by its place in the table.
-fn any_sender(stage: &mut dyn Stage) -> usize {
+pub fn any_sender(stage: &mut dyn Stage) -> usize {
     let count = stage.receiver().senders.len() as u64;
     stage.dice().below(count.max(1)) as usize
 }
@@ -143,7 +143,7 @@ fn plan(stage: &mut dyn Stage, at: usize, version: u32, seq: u32) -> Plan {
 }
 
 /// The same plan, with a message of one piece.
-fn short(stage: &mut dyn Stage, plan: Plan) -> Plan {
+pub fn short(stage: &mut dyn Stage, plan: Plan) -> Plan {
     let any = stage.dice().below(1_397) as usize;
     let n = stage
         .dice()
@@ -156,7 +156,7 @@ fn short(stage: &mut dyn Stage, plan: Plan) -> Plan {
 }
 
 /// The same plan, with a message of 2 to 6 pieces.
-fn several(stage: &mut dyn Stage, plan: Plan) -> Plan {
+pub fn several(stage: &mut dyn Stage, plan: Plan) -> Plan {
     let dice = stage.dice();
     let any = dice.between(256, 1_396);
     let u = dice.one_of(&[256, 257, 1_332, 1_395, 1_396, any]);
@@ -179,12 +179,12 @@ fn of_any_size(stage: &mut dyn Stage, plan: Plan) -> Plan {
     }
 }
 
-fn send(stage: &mut dyn Stage, plan: &Plan, piece: usize) {
+pub fn send(stage: &mut dyn Stage, plan: &Plan, piece: usize) {
     stage.message(&plan.pdu(piece));
 }
 
 /// The pieces in random order, some of them twice.
-fn order(dice: &mut Dice, pieces: usize) -> Vec<usize> {
+pub fn order(dice: &mut Dice, pieces: usize) -> Vec<usize> {
     let mut order: Vec<usize> = (1..=pieces).collect();
     match dice.below(4) {
         0 => (),
@@ -219,6 +219,12 @@ fn send_some(stage: &mut dyn Stage, plan: &Plan) -> Vec<usize> {
 /// A sender with a last version not 0 and nothing open.
 fn settled(stage: &mut dyn Stage) -> usize {
     let at = any_sender(stage);
+    settle(stage, at);
+    at
+}
+
+/// Gives the sender a last version not 0, and closes its open message.
+pub fn settle(stage: &mut dyn Stage, at: usize) {
     let sender = sender_at(stage, at);
     if sender.open || sender.last_version == 0 {
         let version = fresh_version(stage, at);
@@ -227,17 +233,16 @@ fn settled(stage: &mut dyn Stage) -> usize {
         let plan = short(stage, plan);
         send(stage, &plan, 1);
     }
-    at
 }
 
 /// A plan under a settled sender's last version, `steps` after its last number.
-fn following(stage: &mut dyn Stage, at: usize, steps: u64) -> Plan {
+pub fn following(stage: &mut dyn Stage, at: usize, steps: u64) -> Plan {
     let sender = sender_at(stage, at);
     let (version, last) = (sender.last_version, sender.last_number.max(1));
     plan(stage, at, version, after(last, steps))
 }
 
-fn tick(stage: &mut dyn Stage, ms: u64) {
+pub fn tick(stage: &mut dyn Stage, ms: u64) {
     let now = stage.receiver().clock;
     stage.clock(now.saturating_add(ms));
 }
@@ -302,7 +307,7 @@ pub fn before_setup(stage: &mut dyn Stage) {
     stage.alive(&alive);
 }
 
-fn a_pdu_of_nobody() -> Vec<u8> {
+pub fn a_pdu_of_nobody() -> Vec<u8> {
     let head = Head {
         ml: 64,
         field: 1,
@@ -471,7 +476,7 @@ fn ring_ends(stage: &mut dyn Stage) {
 // ---- drops and refusals beside an open message ----
 
 /// Opens a message of several pieces and leaves it open.
-fn open_one(stage: &mut dyn Stage, steps: u64) -> (usize, Plan, Vec<usize>) {
+pub fn open_one(stage: &mut dyn Stage, steps: u64) -> (usize, Plan, Vec<usize>) {
     let at = settled(stage);
     let opened = following(stage, at, steps);
     let opened = several(stage, opened);
@@ -619,7 +624,7 @@ fn clock_far(stage: &mut dyn Stage) {
     new_setup(stage);
 }
 
-fn alive_pdu(dice: &mut Dice, from: (u8, u16), mode: u8, timeout: u32, size: u16) -> Vec<u8> {
+pub fn alive_pdu(dice: &mut Dice, from: (u8, u16), mode: u8, timeout: u32, size: u16) -> Vec<u8> {
     let mut pdu: Vec<u8> = (0..size).map(|_| dice.throw() as u8).collect();
     let head = Head {
         ml: size.into(),
@@ -645,7 +650,7 @@ fn alive_pdu(dice: &mut Dice, from: (u8, u16), mode: u8, timeout: u32, size: u16
     pdu
 }
 
-fn good_alive(stage: &mut dyn Stage, at: usize, mode: u8, timeout: u32) -> Vec<u8> {
+pub fn good_alive(stage: &mut dyn Stage, at: usize, mode: u8, timeout: u32) -> Vec<u8> {
     let sender = sender_at(stage, at);
     let from = (sender.field, sender.node);
     let any = stage.dice().between(128, 1_472) as u16;
@@ -653,7 +658,7 @@ fn good_alive(stage: &mut dyn Stage, at: usize, mode: u8, timeout: u32) -> Vec<u
     alive_pdu(stage.dice(), from, mode, timeout, size)
 }
 
-fn hear(stage: &mut dyn Stage, at: usize, mode: u8, timeout: u32) {
+pub fn hear(stage: &mut dyn Stage, at: usize, mode: u8, timeout: u32) {
     let pdu = good_alive(stage, at, mode, timeout);
     stage.alive(&pdu);
 }
@@ -716,7 +721,7 @@ fn resize(pdu: &mut Vec<u8>, length: usize) {
 // ---- damaged and strange PDUs ----
 
 /// A PDU that would be stored or delivered.
-fn good_pdu(stage: &mut dyn Stage) -> Vec<u8> {
+pub fn good_pdu(stage: &mut dyn Stage) -> Vec<u8> {
     let at = settled(stage);
     let next = following(stage, at, 1);
     let next = of_any_size(stage, next);
@@ -735,7 +740,7 @@ fn damaged_pdu(stage: &mut dyn Stage) {
 }
 
 /// Damages one place of the header: a chosen wrong value, or one bit.
-fn damage_header(dice: &mut Dice, pdu: &mut [u8]) {
+pub fn damage_header(dice: &mut Dice, pdu: &mut [u8]) {
     let wrong = [
         (header::SEQ, 0),
         (header::SEQ, u64::from(M) + 1),

@@ -2,34 +2,16 @@
 //! the shape that `docs/EDGES.md` gives them, and make the calls whose lines
 //! `second edges` prints.
 
+mod replay;
+
 use std::sync::OnceLock;
 
-use second::alive::alive;
-use second::clock::clock;
-use second::cut::{cut_piece, HeaderValues};
-use second::fields::{next_field, Next};
-use second::receiver::{message, part, question, Answer, Where};
-use second::state::{setup, OpenMessage, Receiver, Sender, Setup};
-
-/// A field as it is read: tag and contents.
-type Field = (char, Vec<u8>);
+use replay::{lines_of, read, Field};
 
 /// All fields, made and read once for all tests.
 fn fields() -> &'static [Field] {
     static FIELDS: OnceLock<Vec<Field>> = OnceLock::new();
     FIELDS.get_or_init(|| read(&second::edges::calls_as_fields()))
-}
-
-/// "tag octet, two-octet length, contents"; a field that is cut is a panic here.
-fn read(octets: &[u8]) -> Vec<Field> {
-    let mut fields = Vec::new();
-    let mut rest = octets;
-    while !rest.is_empty() {
-        let end = 3 + usize::from(rest[1]) * 256 + usize::from(rest[2]);
-        fields.push((char::from(rest[0]), rest[3..end].to_vec()));
-        rest = &rest[end..];
-    }
-    fields
 }
 
 /// The fields of one section, without its title.
@@ -230,227 +212,14 @@ fn cutter_part_and_field_octet_by_octet() {
     assert_eq!(rows.last(), Some(&('F', whole)));
 }
 
-// The calls, made again from their fields alone.
-
-/// Numbers read off the front of some contents.
-struct Contents<'a>(&'a [u8]);
-
-impl Contents<'_> {
-    fn number(&mut self, size: usize) -> u64 {
-        let (front, rest) = self.0.split_at(size);
-        self.0 = rest;
-        front.iter().fold(0, |n, octet| n * 256 + u64::from(*octet))
-    }
-}
-
-/// The state in use, the storage, and the lines printed.
-struct Replay {
-    state: Receiver,
-    storage: Vec<u8>,
-    lines: Vec<String>,
-}
-
-fn sum(octets: &[u8]) -> u64 {
-    let next = |s, octet: &u8| (31 * s + u64::from(*octet)) % 4_294_967_296;
-    octets.iter().fold(7, next)
-}
-
-impl Replay {
-    /// One field: its call, and its lines if the tag prints.
-    fn field(&mut self, tag: char, contents: &[u8]) {
-        let line = match tag.to_ascii_uppercase() {
-            '#' => format!("# {}", std::str::from_utf8(contents).unwrap()),
-            'S' => self.setup(Contents(contents)),
-            'P' => self.message(Contents(contents)),
-            'A' => format!("A {}", alive(&mut self.state, contents)),
-            'C' => self.clock(Contents(contents)),
-            'Q' => self.ask(),
-            'W' => self.show(),
-            'T' => self.damage_state(Contents(contents)),
-            'K' => cut(Contents(contents)),
-            'R' if tag == 'r' => self.damage_sender(Contents(contents)),
-            'R' => self.part(Contents(contents)),
-            _ => field(contents),
-        };
-        if !tag.is_lowercase() {
-            self.lines.extend(line.lines().map(str::to_string));
-        }
-    }
-
-    fn setup(&mut self, mut contents: Contents) -> String {
-        let mut wanted = Setup {
-            mode: contents.number(1) as u8,
-            n1: contents.number(2) as u16,
-            t: contents.number(4) as u32,
-            senders: Vec::new(),
-        };
-        let count = contents.number(1) as usize;
-        for _ in 0..16 {
-            let sender = (contents.number(1) as u8, contents.number(2) as u16);
-            wanted.senders.push(sender);
-        }
-        // 17 or more: any further pair, so that the list is as long as that.
-        wanted.senders.resize(count, (99, 99));
-        self.storage.fill(170);
-        let (number, state) = setup(&wanted);
-        self.state = state;
-        format!("S {number}")
-    }
-
-    fn message(&mut self, mut contents: Contents) -> String {
-        let storage = &mut self.storage[..contents.number(4) as usize];
-        let packet = contents.0;
-        let a = message(&mut self.state, storage, packet);
-        let delivered = part(a.message, packet, storage);
-        let sums = format!("{} {}", sum(delivered), sum(storage));
-        let dropped = format!("{} {}", a.dropped_version, a.dropped_number);
-        let (number, verdict, length) = (a.number, a.verdict.number(), delivered.len());
-        let (held, skipped) = (a.held, a.skipped);
-        format!("P {number} {verdict} {held} {length} {skipped} {dropped} {sums}")
-    }
-
-    fn clock(&mut self, mut contents: Contents) -> String {
-        let answer = clock(&mut self.state, contents.number(8));
-        format!("C {} {} {}", answer.number, answer.dropped, answer.dead)
-    }
-
-    fn ask(&self) -> String {
-        match question(&self.state) {
-            Answer::Refused(number) => format!("Q {number} 0 0 0"),
-            Answer::NoneOpen => "Q 0 0 0 0".into(),
-            Answer::Missing { sender, piece } => format!("Q 0 1 {sender} {piece}"),
-        }
-    }
-
-    fn show(&self) -> String {
-        let s = &self.state;
-        let (test, count) = (u8::from(s.test), s.senders.len());
-        let mut lines = format!("W {test} {} {} {} {count}\n", s.n1, s.t, s.clock);
-        for (place, sender) in s.senders.iter().enumerate() {
-            lines += &sender_line(place, sender);
-        }
-        lines
-    }
-
-    fn damage_state(&mut self, mut contents: Contents) -> String {
-        self.state.test = contents.number(1) == 1;
-        self.state.n1 = contents.number(2) as u16;
-        self.state.t = contents.number(4) as u32;
-        self.state.clock = contents.number(8);
-        let count = contents.number(1) as usize;
-        self.state.senders.resize(count, Sender::default());
-        String::new()
-    }
-
-    /// "A program that has no such place sets nothing".
-    fn damage_sender(&mut self, mut contents: Contents) -> String {
-        let place = contents.number(1) as usize;
-        let damaged = sender_of(contents);
-        if let Some(sender) = self.state.senders.get_mut(place) {
-            *sender = damaged;
-        }
-        String::new()
-    }
-
-    fn part(&mut self, mut contents: Contents) -> String {
-        let kind = contents.number(1);
-        let start = contents.number(8) as usize;
-        let length = contents.number(8) as usize;
-        let place = match kind {
-            0 => Where::Nothing,
-            1 => Where::Packet,
-            _ => Where::Storage { start, length },
-        };
-        let storage = &self.storage[..contents.number(4) as usize];
-        let part = part(place, contents.0, storage);
-        format!("R {} {}", part.len(), sum(part))
-    }
-}
-
-fn sender_line(place: usize, sender: &Sender) -> String {
-    let (o, open, alive) = (&sender.message, sender.open as u8, sender.alive as u8);
-    let last = format!("{} {}", sender.last_version, sender.last_number);
-    let named = format!("{} {} {} {} {}", o.version, o.seq, o.tcd, o.n, o.tbn);
-    let cut = format!("{} {} {}", o.u, o.map, o.stamp);
-    let heard = format!("{alive} {} {}", sender.alive_stamp, sender.al_tm_out);
-    let pair = format!("{} {}", sender.field, sender.node);
-    format!("w {place} {pair} {last} {open} {named} {cut} {heard}\n")
-}
-
-fn sender_of(mut contents: Contents) -> Sender {
-    Sender {
-        field: contents.number(1) as u8,
-        node: contents.number(2) as u16,
-        last_version: contents.number(4) as u32,
-        last_number: contents.number(4) as u32,
-        open: contents.number(1) == 1,
-        message: OpenMessage {
-            version: contents.number(4) as u32,
-            seq: contents.number(4) as u32,
-            tcd: contents.number(2) as u16,
-            n: contents.number(2) as u16,
-            tbn: contents.number(1) as u8,
-            u: contents.number(2) as u16,
-            map: contents.number(8),
-            stamp: contents.number(8),
-        },
-        alive: contents.number(1) == 1,
-        alive_stamp: contents.number(8),
-        al_tm_out: contents.number(4) as u32,
-    }
-}
-
-fn cut(mut contents: Contents) -> String {
-    let mut buffer = vec![170; contents.number(2) as usize];
-    let (u, piece) = (contents.number(2) as usize, contents.number(1) as usize);
-    let values = HeaderValues {
-        field: contents.number(1) as u8,
-        node: contents.number(2) as u16,
-        da: contents.number(4) as u32,
-        version: contents.number(4) as u32,
-        seq: contents.number(4) as u32,
-        m_ctl: contents.number(4) as u32,
-        tcd: contents.number(2) as u16,
-        mode: contents.number(2) as u16,
-        pri: contents.number(1) as u8,
-    };
-    let answer = cut_piece(&values, contents.0, u, piece, &mut buffer);
-    let (pdu, rest) = buffer.split_at(answer.length);
-    let sums = format!("{} {}", sum(pdu), sum(rest));
-    let line = format!("K {} {} {sums}\n", answer.number, answer.length);
-    if answer.number != 0 {
-        return line;
-    }
-    let octets = pdu[..64].iter().map(|octet| format!(" {octet}"));
-    line + "k" + &octets.collect::<String>()
-}
-
-fn field(octets: &[u8]) -> String {
-    match next_field(octets) {
-        Next::End => "F 0 0 0 7".into(),
-        Next::Cut => "F 1 0 0 7".into(),
-        Next::Bad => "F 2 0 0 7".into(),
-        Next::One { tag, contents, .. } => {
-            format!("F 3 {tag} {} {}", contents.len(), sum(contents))
-        }
-    }
-}
-
 /// "such a program needs nothing of this page but "The calls as fields"".
 #[test]
 fn the_fields_alone_give_the_same_lines() {
-    let mut replay = Replay {
-        state: Receiver::empty(),
-        storage: vec![0; 262_144],
-        lines: Vec::new(),
-    };
-    for (tag, contents) in fields() {
-        replay.field(*tag, contents);
-    }
+    let replayed = lines_of(fields());
     let printed = second::edges::lines();
     let printed: Vec<&str> = printed.lines().collect();
-    assert_eq!(replay.lines.len(), printed.len());
+    assert_eq!(replayed.len(), printed.len());
     for (at, line) in printed.iter().enumerate() {
-        assert_eq!(replay.lines[at], *line, "line {}", at + 1);
+        assert_eq!(replayed[at], *line, "line {}", at + 1);
     }
 }

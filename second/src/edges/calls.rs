@@ -1,9 +1,9 @@
 //! "The calls as fields": the contents of each field, a call with all its octets.
 //! "numbers have the high octet first".
 
-use super::table::{senders, values_of};
+use super::table::values_of;
 use crate::cut::HeaderValues;
-use crate::state::{Receiver, Sender, SENDERS_MOST};
+use crate::state::{Receiver, Sender, Setup, SENDERS_MOST};
 
 /// Numbers behind one another, each in so many octets.
 fn numbers(sized: &[(usize, u64)]) -> Vec<u8> {
@@ -18,11 +18,16 @@ fn numbers(sized: &[(usize, u64)]) -> Vec<u8> {
 
 /// "setup: mode (1), n1 (2), t (4), count (1), then data field (1) and node (2)
 /// of all 16 places." Also "A count of 17 is written with the 16 places."
-pub fn setup(values: [u32; 6]) -> Vec<u8> {
-    let [mode, n1, t, count, field, node] = values.map(u64::from);
-    let mut contents = numbers(&[(1, mode), (2, n1), (4, t), (1, count)]);
-    for (field, node) in senders(SENDERS_MOST as u32, (field as u8, node as u16)) {
-        contents.extend(numbers(&[(1, field.into()), (2, node.into())]));
+pub fn setup(wanted: &Setup, places: &[(u8, u16)]) -> Vec<u8> {
+    assert_eq!(places.len(), SENDERS_MOST);
+    let mut contents = numbers(&[
+        (1, wanted.mode.into()),
+        (2, wanted.n1.into()),
+        (4, wanted.t.into()),
+        (1, wanted.senders.len() as u64),
+    ]);
+    for (field, node) in places {
+        contents.extend(numbers(&[(1, (*field).into()), (2, (*node).into())]));
     }
     contents
 }

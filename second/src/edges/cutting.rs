@@ -27,11 +27,12 @@ const NINE: HeaderValues = HeaderValues {
 };
 
 /// n, u, piece, buffer.
-type Row = [usize; 4];
+pub type Row = [usize; 4];
 
 /// "cut(n, u, piece, buffer)", with these header values. The message's octets
-/// are always those of SEQ 100.
-fn cut_with(past: &mut Past, values: &HeaderValues, [n, u, piece, length]: Row) {
+/// are always those of SEQ 100. "The buffer has buffer octets, each of them 170
+/// before the call."
+pub fn cut_with(past: &mut Past, values: &HeaderValues, [n, u, piece, length]: Row) {
     let message = pdu::message(0..n, 100);
     let mut buffer = vec![FILL; length];
     let answer = cut_piece(values, &message, u, piece, &mut buffer);

@@ -7,13 +7,18 @@
 
 mod alive_and_clock;
 mod calls;
+mod clauses;
 mod cutting;
 mod damage;
 mod joining;
+mod library;
 mod many_senders;
+mod nine;
+mod own_scenes;
 mod parts_and_fields;
 mod past;
 mod pdu;
+pub mod random;
 mod single;
 mod table;
 

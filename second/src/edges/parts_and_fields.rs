@@ -14,7 +14,7 @@ pub fn sections(past: &mut Past) {
 }
 
 /// kind, start, length, packet, storage.
-type Row = (u8, u64, u64, usize, usize);
+pub type Row = (u8, u64, u64, usize, usize);
 
 const PARTS: [Row; 24] = [
     (0, 0, 0, 74, 32_768),
@@ -56,7 +56,7 @@ fn slices_that_do_not_fit(past: &mut Past) {
 }
 
 /// "R length sum".
-fn part_call(past: &mut Past, (kind, start, length, packet, lent): Row) {
+pub fn part_call(past: &mut Past, (kind, start, length, packet, lent): Row) {
     let packet = &pdu::number(5, 100)[..packet];
     let handed = part(place_of(kind, start, length), packet, &past.storage[..lent]);
     let line = format!("R {} {}", handed.len(), sum(handed));

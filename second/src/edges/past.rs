@@ -19,20 +19,36 @@ pub struct Past {
     pub lines: String,
     pub fields: Vec<u8>,
     quiet: bool,
+    /// How many calls are still to be kept; behind them nothing is, though the
+    /// calls go on.
+    left: usize,
 }
 
 /// "the whole storage is filled with octet 170"; a cutter's buffer is too.
 pub const FILL: u8 = 170;
 
 impl Past {
+    /// A past of which all calls are kept.
     pub fn new() -> Past {
+        Past::of(usize::MAX)
+    }
+
+    /// A past of which the first `calls` that print are kept, with all that stands
+    /// before them.
+    pub fn of(calls: usize) -> Past {
         Past {
             receiver: Receiver::empty(),
             storage: vec![FILL; SENDERS_MOST * AREA],
             lines: String::new(),
             fields: Vec::new(),
             quiet: false,
+            left: calls,
         }
+    }
+
+    /// All calls that were wanted are kept.
+    pub fn is_full(&self) -> bool {
+        self.left == 0
     }
 
     /// Keeps a call that was made: "A capital one makes its call and prints its
@@ -42,22 +58,36 @@ impl Past {
             self.write(tag.to_ascii_lowercase(), contents);
             return;
         }
+        if self.is_full() {
+            return;
+        }
         self.write(tag, contents);
         self.lines += lines;
         self.lines.push('\n');
+        if tag != '#' {
+            self.left -= 1;
+        }
     }
 
     /// Writes a field that prints nothing of itself. "A tag is a letter, in
     /// ASCII."
     pub fn write(&mut self, tag: char, contents: &[u8]) {
+        if self.is_full() {
+            return;
+        }
         let field = field(tag as u8, contents).expect("no call needs more than 65,535 octets");
         self.fields.extend(field);
     }
 
     /// "Every section begins with fresh(), after its # line."
     pub fn section(&mut self, title: &str) {
-        self.made('#', title.as_bytes(), &format!("# {title}"));
+        self.title(title);
         self.fresh();
+    }
+
+    /// "Prints the # line. Makes no call".
+    pub fn title(&mut self, title: &str) {
+        self.made('#', title.as_bytes(), &format!("# {title}"));
     }
 
     /// Makes calls, "printing nothing".
@@ -73,19 +103,28 @@ impl Past {
         self.quietly(|past| past.setup([0, 16, 15_000, 2, 2, 9]));
     }
 
-    /// "setup(mode, n1, t, count, field, node)"; the state is what setup
-    /// returns, "also on a refusal".
+    /// "setup(mode, n1, t, count, field, node)".
     pub fn setup(&mut self, values: [u32; 6]) {
         let [mode, n1, t, count, field, node] = values;
-        let (number, receiver) = setup(&Setup {
+        let second = (field as u8, node as u16);
+        let wanted = Setup {
             mode: mode as u8,
             n1: n1 as u16,
             t,
-            senders: senders(count, (field as u8, node as u16)),
-        });
+            senders: senders(count, second),
+        };
+        self.set_up(&wanted, &senders(SENDERS_MOST as u32, second));
+    }
+
+    /// "Fills the whole storage with octet 170 and calls setup"; the state is what
+    /// setup returns, "also on a refusal". The places are those of "a program that
+    /// holds 16 places and a count beside them".
+    pub fn set_up(&mut self, wanted: &Setup, places: &[(u8, u16)]) {
+        let (number, receiver) = setup(wanted);
         self.storage.fill(FILL);
         self.receiver = receiver;
-        self.made('S', &calls::setup(values), &format!("S {number}"));
+        let contents = calls::setup(wanted, places);
+        self.made('S', &contents, &format!("S {number}"));
     }
 
     pub fn piece(&mut self, values: [u32; 8]) {
@@ -109,7 +148,7 @@ impl Past {
     }
 
     /// Lends the storage of every sender.
-    fn message(&mut self, packet: &[u8]) {
+    pub fn message(&mut self, packet: &[u8]) {
         self.message_lent(AREA * self.receiver.senders.len(), packet);
     }
 
@@ -146,7 +185,7 @@ impl Past {
         self.alive_call(&pdu::alive_sized(ml, bsize, lent));
     }
 
-    fn alive_call(&mut self, packet: &[u8]) {
+    pub fn alive_call(&mut self, packet: &[u8]) {
         let number = alive(&mut self.receiver, packet);
         self.made('A', packet, &format!("A {number}"));
     }
@@ -165,6 +204,21 @@ impl Past {
             Answer::Missing { sender, piece } => format!("Q 0 1 {sender} {piece}"),
         };
         self.made('Q', &[], &line);
+    }
+
+    /// Damage: the state in use becomes this one, by fields for all that differs.
+    /// The settings come first, since a record stands at a place that the count
+    /// gives.
+    pub fn damage_to(&mut self, state: Receiver) {
+        let before = std::mem::replace(&mut self.receiver, state.clone());
+        if calls::settings(&before) != calls::settings(&state) {
+            self.write('t', &calls::settings(&state));
+        }
+        for (place, sender) in state.senders.iter().take(SENDERS_MOST).enumerate() {
+            if before.senders.get(place) != Some(sender) {
+                self.write('r', &calls::record(place, sender));
+            }
+        }
     }
 
     /// "W test n1 t clock count", and a w line for each sender.

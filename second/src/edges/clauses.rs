@@ -1,0 +1,181 @@
+//! The clauses of 9, each with a damage that meets it alone: "a state with a
+//! setting, sender, time, last number, open SEQ or open code outside this paper's
+//! limits, a stamp after the clock, last number 0 under a version not 0, or an
+//! open message with an impossible cut or a map that is empty, full or marked
+//! past TBN".
+
+use crate::dice::Dice;
+use crate::numbers::M;
+use crate::state::{full_map, OpenMessage, Receiver, Sender, CLOCK_MOST};
+
+/// One clause: its name, and a damage that brings a state outside it. The place
+/// is that of a sender that is alive and has an open message, in a state within
+/// its limits with at least two senders.
+pub struct Clause {
+    pub name: &'static str,
+    pub damage: fn(&mut Receiver, usize, &mut Dice),
+}
+
+const fn clause(name: &'static str, damage: fn(&mut Receiver, usize, &mut Dice)) -> Clause {
+    Clause { name, damage }
+}
+
+pub const CLAUSES: [Clause; 18] = [
+    clause("N1", |state, _, dice| {
+        state.n1 = dice.one_of(&[0, 1_025, u16::MAX])
+    }),
+    clause("T", |state, _, dice| {
+        state.t = dice.one_of(&[0, 600_001, u32::MAX])
+    }),
+    clause("data field", |state, _, dice| {
+        any_sender(state, dice).field = 0
+    }),
+    clause("node", |state, _, dice| {
+        any_sender(state, dice).node = dice.one_of(&[0, 4_096, u16::MAX])
+    }),
+    clause("a pair twice", a_pair_twice),
+    clause("more than 16 senders", more_than_16_senders),
+    clause("no senders", no_senders),
+    clause("time", |state, _, dice| {
+        state.clock = dice.one_of(&[CLOCK_MOST + 1, u64::MAX])
+    }),
+    clause("last number", |state, _, dice| {
+        any_sender(state, dice).last_number = dice.one_of(&[M + 1, u32::MAX])
+    }),
+    clause("last number 0 under a version not 0", |state, _, dice| {
+        let version = dice.one_of(&[1, 5, u32::MAX]);
+        let sender = any_sender(state, dice);
+        (sender.last_version, sender.last_number) = (version, 0);
+    }),
+    clause("open SEQ", |state, at, dice| {
+        open(state, at).seq = dice.one_of(&[0, M + 1, u32::MAX])
+    }),
+    clause("open code", |state, at, dice| {
+        open(state, at).tcd = dice.one_of(&[0, 60_000, 60_003, u16::MAX])
+    }),
+    clause("a message's stamp after the clock", |state, at, dice| {
+        open(state, at).stamp = dice.one_of(&[state.clock + 1, u64::MAX])
+    }),
+    clause(
+        "an alive sender's stamp after the clock",
+        |state, at, dice| state.senders[at].alive_stamp = dice.one_of(&[state.clock + 1, u64::MAX]),
+    ),
+    clause("impossible cut", impossible_cut),
+    clause("map empty", |state, at, _| open(state, at).map = 0),
+    clause("map full", |state, at, _| {
+        let open = open(state, at);
+        open.map = full_map(open.tbn)
+    }),
+    clause("map marked past TBN", |state, at, dice| {
+        let open = open(state, at);
+        open.map |= 1 << dice.between(open.tbn.into(), 63)
+    }),
+];
+
+fn any_sender<'a>(state: &'a mut Receiver, dice: &mut Dice) -> &'a mut Sender {
+    let place = dice.below(state.senders.len() as u64) as usize;
+    &mut state.senders[place]
+}
+
+fn open(state: &mut Receiver, at: usize) -> &mut OpenMessage {
+    &mut state.senders[at].message
+}
+
+fn a_pair_twice(state: &mut Receiver, at: usize, dice: &mut Dice) {
+    let others = state.senders.len() as u64 - 1;
+    let other = (at + 1 + dice.below(others) as usize) % state.senders.len();
+    let pair = (state.senders[at].field, state.senders[at].node);
+    let sender = &mut state.senders[other];
+    (sender.field, sender.node) = pair;
+}
+
+/// The count alone is outside: the senders behind the others are unheard, and no
+/// pair stands twice.
+fn more_than_16_senders(state: &mut Receiver, _: usize, dice: &mut Dice) {
+    let count = dice.one_of(&[17, 18, 255]);
+    let unheard = (1..=4_095).map(|node| Sender {
+        field: 77,
+        node,
+        ..Sender::default()
+    });
+    let more = count - state.senders.len();
+    state.senders.extend(unheard.take(more));
+}
+
+/// Of the states without senders only the empty one passes, "online, N1 1, T 1".
+fn no_senders(state: &mut Receiver, _: usize, dice: &mut Dice) {
+    state.senders.clear();
+    let others = [
+        (true, 1, 1),
+        (false, 2, 1),
+        (false, 1, 2),
+        (false, 16, 15_000),
+    ];
+    (state.test, state.n1, state.t) = dice.one_of(&others);
+}
+
+/// The cut alone is outside: TBN never falls below the pieces that are held.
+fn impossible_cut(state: &mut Receiver, at: usize, dice: &mut Dice) {
+    let open = open(state, at);
+    let (tbn, u) = (u16::from(open.tbn), open.u);
+    match dice.below(5) {
+        0 => open.u = dice.one_of(&[0, 255, 1_397, u16::MAX]),
+        1 => open.n = (tbn - 1) * u,
+        2 => open.n = tbn * u + 1,
+        3 => open.tbn += 1,
+        _ => open.n = dice.one_of(&[0, 16_385, u16::MAX]),
+    }
+}
+
+#[cfg(test)]
+mod tests {
+    use super::*;
+    use crate::state::{setup, within_limits, Setup};
+
+    /// Three senders; the second is alive, with Figure 54's message open.
+    fn busy() -> Receiver {
+        let wanted = Setup {
+            mode: 0,
+            n1: 16,
+            t: 15_000,
+            senders: vec![(1, 7), (2, 9), (3, 9)],
+        };
+        let mut state = setup(&wanted).1;
+        state.clock = 1_000;
+        let sender = &mut state.senders[1];
+        (sender.last_version, sender.last_number) = (5, 99);
+        (sender.alive, sender.alive_stamp, sender.open) = (true, 1_000, true);
+        sender.message = OpenMessage {
+            version: 5,
+            seq: 100,
+            tcd: 1,
+            n: 4_500,
+            tbn: 4,
+            u: 1_332,
+            map: 0b0101,
+            stamp: 1_000,
+        };
+        state
+    }
+
+    #[test]
+    fn each_clause_is_outside_the_limits() {
+        assert!(within_limits(&busy()));
+        let mut dice = Dice::new(1);
+        for clause in CLAUSES {
+            for _ in 0..50 {
+                let mut damaged = busy();
+                (clause.damage)(&mut damaged, 1, &mut dice);
+                assert!(!within_limits(&damaged), "{}: {damaged:?}", clause.name);
+            }
+        }
+    }
+
+    #[test]
+    fn names_differ() {
+        let mut names: Vec<&str> = CLAUSES.iter().map(|clause| clause.name).collect();
+        names.sort_unstable();
+        names.dedup();
+        assert_eq!(names.len(), CLAUSES.len());
+    }
+}

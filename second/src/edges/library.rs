@@ -1,0 +1,118 @@
+//! The library's calls as a stage for the scenes: each is made and kept, with up
+//! to 16 senders.
+
+use super::past::Past;
+use crate::dice::Dice;
+use crate::scenes;
+use crate::stage::Stage;
+use crate::state::{Receiver, Setup, AREA, SENDERS_MOST};
+
+/// The library's calls, made and kept.
+pub struct Library {
+    pub dice: Dice,
+    pub past: Past,
+}
+
+impl Stage for Library {
+    fn dice(&mut self) -> &mut Dice {
+        &mut self.dice
+    }
+
+    fn receiver(&self) -> &Receiver {
+        &self.past.receiver
+    }
+
+    fn senders_most(&self) -> u64 {
+        SENDERS_MOST as u64
+    }
+
+    /// A refused setup leaves the empty state: some calls meet it, then a good
+    /// setup follows, since the scenes need senders.
+    fn setup(&mut self, wanted: &Setup) {
+        let places = self.places(wanted);
+        self.past.set_up(wanted, &places);
+        if self.past.receiver.senders.is_empty() {
+            self.at_the_empty_state();
+            scenes::new_setup(self);
+        }
+    }
+
+    fn message(&mut self, packet: &[u8]) {
+        self.past.message(packet);
+        self.look();
+    }
+
+    fn alive(&mut self, packet: &[u8]) {
+        self.past.alive_call(packet);
+        self.look();
+    }
+
+    fn clock(&mut self, ms: u64) {
+        self.past.clock(ms);
+        self.look();
+    }
+}
+
+impl Library {
+    /// All 16 places of a setup: the senders, and behind them any pairs, which are
+    /// not given.
+    fn places(&mut self, wanted: &Setup) -> Vec<(u8, u16)> {
+        let mut places = wanted.senders.clone();
+        places.truncate(SENDERS_MOST);
+        while places.len() < SENDERS_MOST {
+            let any = self.dice.throw();
+            places.push(self.dice.one_of(&[(0, 0), (1, 7), (any as u8, any as u16)]));
+        }
+        places
+    }
+
+    /// The question after every few calls, and the state now and then.
+    fn look(&mut self) {
+        if self.dice.one_in(4) {
+            self.past.ask();
+        }
+        if self.dice.one_in(40) {
+            self.past.show();
+        }
+    }
+
+    /// How many octets of storage a message call is to be lent.
+    pub fn storage(&self) -> usize {
+        AREA * self.past.receiver.senders.len()
+    }
+
+    /// A length of storage that is not the right one.
+    pub fn wrong_length(&mut self) -> usize {
+        let right = self.storage();
+        let most = SENDERS_MOST * AREA;
+        let any = self.dice.below(most as u64) as usize;
+        let lengths = [
+            0,
+            right - AREA,
+            right - 1,
+            right + 1,
+            right + AREA,
+            most,
+            any,
+        ];
+        let wrong: Vec<usize> = lengths
+            .into_iter()
+            .filter(|lent| *lent != right && *lent <= most)
+            .collect();
+        self.dice.one_of(&wrong)
+    }
+
+    /// Some calls of each kind.
+    fn at_the_empty_state(&mut self) {
+        let nobody = scenes::a_pdu_of_nobody();
+        self.message(&nobody);
+        let lent = self.dice.one_of(&[1, AREA, SENDERS_MOST * AREA]);
+        self.past.message_lent(lent, &nobody);
+        let signal = scenes::alive_pdu(&mut self.dice, (1, 7), 1, 60, 128);
+        self.alive(&signal);
+        let ms = self.dice.below(1_000);
+        scenes::tick(self, ms);
+        self.past.ask();
+        self.past.show();
+    }
+}

@@ -1,0 +1,194 @@
+//! Calls on states outside their limits: each clause of 9 by itself, and together
+//! with another number. Titles name the clause, so that the lines under them can
+//! be held to it:
+//!
+//! - under "9 alone: CLAUSE" all lines of calls give 9; without the damage each
+//!   call would be answered with 0 or 1;
+//! - under "9 and NUMBER: CLAUSE" stand two lines of the same call, NUMBER before
+//!   the damage and 9 after it.
+
+use super::clauses::{Clause, CLAUSES};
+use super::library::Library;
+use crate::alive::{self, alive};
+use crate::clock::clock;
+use crate::header;
+use crate::receiver::message;
+use crate::scenes::{self, before, put, Plan};
+use crate::state::{Receiver, AREA, CLOCK_MOST, SENDERS_MOST};
+
+/// Each clause once, in random order.
+pub fn damaged_states(library: &mut Library) {
+    let mut order: Vec<&Clause> = CLAUSES.iter().collect();
+    library.dice.shuffle(&mut order);
+    for clause in order {
+        let busy = make_busy(library);
+        alone(library, clause, &busy);
+        let number = library.dice.one_of(&OTHERS);
+        together(library, clause, &busy, number);
+        library.past.title("mended");
+    }
+}
+
+/// A sender that is alive and has an open message.
+struct Busy {
+    at: usize,
+    plan: Plan,
+    held: usize,
+    missing: usize,
+}
+
+/// At least two senders, one of which is heard and opens a message, ten numbers
+/// after its last one, so that there is room for an older one.
+fn make_busy(library: &mut Library) -> Busy {
+    while library.past.receiver.senders.len() < 2 {
+        scenes::new_setup(library);
+    }
+    let (at, plan, pieces) = scenes::open_one(library, 10);
+    scenes::hear(library, at, 1, 60);
+    Busy {
+        at,
+        plan,
+        held: pieces[0],
+        missing: pieces[pieces.len() - 1],
+    }
+}
+
+/// Damages the state, makes the calls, and mends it.
+fn damaged(library: &mut Library, clause: &Clause, at: usize, calls: impl Fn(&mut Library)) {
+    let before = library.past.receiver.clone();
+    let mut damaged = before.clone();
+    (clause.damage)(&mut damaged, at, &mut library.dice);
+    library.past.damage_to(damaged);
+    calls(library);
+    library.past.damage_to(before);
+}
+
+/// Calls that are good but for the state. Where there are more than 16 senders
+/// there is no storage of the right length, and no place to show them all.
+fn alone(library: &mut Library, clause: &Clause, busy: &Busy) {
+    let signal = scenes::good_alive(library, busy.at, 1, 60);
+    let now = library.past.receiver.clock;
+    library.past.title(&format!("9 alone: {}", clause.name));
+    damaged(library, clause, busy.at, |library| {
+        let lent = library.storage().min(SENDERS_MOST * AREA);
+        let past = &mut library.past;
+        past.message_lent(lent, &busy.plan.pdu(busy.missing));
+        past.alive_call(&signal);
+        past.clock(now);
+        past.ask();
+        if past.receiver.senders.len() <= SENDERS_MOST {
+            past.show();
+        }
+    });
+}
+
+/// A call with all its octets.
+enum Call {
+    Message { lent: usize, packet: Vec<u8> },
+    Alive(Vec<u8>),
+    Clock(u64),
+}
+
+impl Call {
+    /// The number that it is answered with at this state.
+    fn number_at(&self, state: &Receiver) -> u8 {
+        let mut state = state.clone();
+        match self {
+            Call::Message { lent, packet } => {
+                message(&mut state, &mut vec![0; *lent], packet).number
+            }
+            Call::Alive(packet) => alive(&mut state, packet),
+            Call::Clock(ms) => clock(&mut state, *ms).number,
+        }
+    }
+
+    fn make(&self, library: &mut Library) {
+        match self {
+            Call::Message { lent, packet } => library.past.message_lent(*lent, packet),
+            Call::Alive(packet) => library.past.alive_call(packet),
+            Call::Clock(ms) => library.past.clock(*ms),
+        }
+    }
+}
+
+/// The numbers that can be given beside 9.
+const OTHERS: [u8; 12] = [11, 12, 13, 14, 15, 16, 17, 18, 19, 20, 21, 22];
+
+/// A call that is refused at the good state too. (Not each can be made at each
+/// state: a test node has no 15.)
+fn together(library: &mut Library, clause: &Clause, busy: &Busy, number: u8) {
+    let call = refused_with(library, busy, number);
+    let number = call.number_at(&library.past.receiver);
+    if number < 9 {
+        return;
+    }
+    let title = format!("9 and {number}: {}", clause.name);
+    library.past.title(&title);
+    call.make(library);
+    damaged(library, clause, busy.at, |library| call.make(library));
+}
+
+/// A call for this number.
+fn refused_with(library: &mut Library, busy: &Busy, number: u8) -> Call {
+    let signal = library.dice.one_in(2);
+    match number {
+        11 => Call::Message {
+            lent: library.wrong_length(),
+            packet: busy.plan.pdu(busy.missing),
+        },
+        21 => Call::Clock(wrong_time(library)),
+        22 => wrong_signal(library, busy, number),
+        12..=14 if signal => wrong_signal(library, busy, number),
+        _ => Call::Message {
+            lent: library.storage(),
+            packet: wrong_packet(busy, number),
+        },
+    }
+}
+
+/// "21 | clock back or above its limit".
+fn wrong_time(library: &mut Library) -> u64 {
+    let now = library.past.receiver.clock;
+    let late = library.dice.one_of(&[CLOCK_MOST + 1, u64::MAX]);
+    match now {
+        0 => late,
+        _ => library.dice.one_of(&[now - 1, 0, late]),
+    }
+}
+
+fn wrong_signal(library: &mut Library, busy: &Busy, number: u8) -> Call {
+    let mut packet = scenes::good_alive(library, busy.at, 1, 60);
+    match number {
+        12 => packet.push(0),
+        13 => put(&mut packet, header::PVER, 2),
+        14 => put(&mut packet, header::SA_NODE, 4_096),
+        _ => put(&mut packet, alive::AL_VER, 2),
+    }
+    Call::Alive(packet)
+}
+
+/// A PDU of the open message, or of one before it, with one thing wrong.
+fn wrong_packet(busy: &Busy, number: u8) -> Vec<u8> {
+    let mut plan = busy.plan.clone();
+    match number {
+        15 => plan.values.mode = header::TEST,
+        17 => plan.values.seq = before(plan.values.seq, 10),
+        18 => plan.values.seq = before(plan.values.seq, 1),
+        19 => plan.values.tcd ^= 7,
+        _ => (),
+    }
+    let piece = if number == 20 {
+        busy.held
+    } else {
+        busy.missing
+    };
+    let mut packet = plan.pdu(piece);
+    match number {
+        12 => packet.push(0),
+        13 => put(&mut packet, header::PVER, 2),
+        14 => put(&mut packet, header::SA_NODE, 4_096),
+        16 => put(&mut packet, header::CBN, 0),
+        _ => (),
+    }
+    packet
+}

@@ -1,0 +1,179 @@
+//! `second edges-random` and `second edges-random-calls`: random calls of the
+//! library, held to what `docs/EDGES.md` says of them.
+
+mod replay;
+
+use std::collections::BTreeMap;
+
+use replay::{lines_of, read};
+use second::counts::counts;
+use second::edges::random::{calls_as_fields, lines};
+
+/// Calls enough for every number and clause.
+const COUNT: usize = 5_000;
+
+#[test]
+fn calls_depend_on_their_seed_alone() {
+    assert_eq!(calls_as_fields(7, 300), calls_as_fields(7, 300));
+    assert_ne!(calls_as_fields(7, 300), calls_as_fields(8, 300));
+    assert_eq!(lines(7, 300), lines(7, 300));
+    assert_eq!(calls_as_fields(7, 0), []);
+    assert_eq!(lines(7, 0), "");
+}
+
+#[test]
+fn a_smaller_count_is_a_beginning() {
+    let (all_fields, all_lines) = (calls_as_fields(7, 2_000), lines(7, 2_000));
+    for count in [1, 2, 3, 10, 199, 200, 1_000, 1_999] {
+        assert!(
+            all_fields.starts_with(&calls_as_fields(7, count)),
+            "{count}"
+        );
+        assert!(all_lines.starts_with(&lines(7, count)), "{count}");
+    }
+}
+
+/// A call is a field with a capital tag.
+#[test]
+fn so_many_calls_are_made() {
+    for count in [1, 57, 1_000] {
+        let fields = read(&calls_as_fields(3, count));
+        let calls = fields.iter().filter(|(tag, _)| tag.is_ascii_uppercase());
+        assert_eq!(calls.count(), count);
+    }
+}
+
+#[test]
+fn the_fields_alone_give_the_same_lines() {
+    for seed in [1, u64::MAX] {
+        let replayed = lines_of(&read(&calls_as_fields(seed, 2_000)));
+        let printed = lines(seed, 2_000);
+        let printed: Vec<&str> = printed.lines().collect();
+        assert_eq!(replayed.len(), printed.len());
+        for (at, line) in printed.iter().enumerate() {
+            assert_eq!(replayed[at], *line, "seed {seed}, line {}", at + 1);
+        }
+    }
+}
+
+/// Every answer of each kind of line, and every verdict.
+const REACHED: [(&str, &[u8]); 7] = [
+    ("S", &[0, 10]),
+    ("P", &[0, 1, 9, 11, 12, 13, 14, 15, 16, 17, 18, 19, 20]),
+    ("V", &[0, 1, 2, 3, 4, 5]),
+    ("A", &[0, 9, 12, 13, 14, 22]),
+    ("C", &[0, 9, 21]),
+    ("Q", &[0, 9]),
+    ("K", &[0, 23]),
+];
+
+#[test]
+fn every_number_and_verdict_is_reached_by_any_seed() {
+    for seed in [0, 1, u64::MAX] {
+        let tally = counts(&lines(seed, COUNT)).unwrap();
+        for (kind, numbers) in REACHED {
+            for number in numbers {
+                let start = format!("{kind} {number} ");
+                let occurs = tally.lines().any(|line| line.starts_with(&start));
+                assert!(occurs, "seed {seed}: {start}");
+            }
+        }
+    }
+}
+
+/// The clauses of 01's row 9, by the names that the titles have.
+const CLAUSES: [&str; 18] = [
+    "N1",
+    "T",
+    "data field",
+    "node",
+    "a pair twice",
+    "more than 16 senders",
+    "no senders",
+    "time",
+    "last number",
+    "last number 0 under a version not 0",
+    "open SEQ",
+    "open code",
+    "a message's stamp after the clock",
+    "an alive sender's stamp after the clock",
+    "impossible cut",
+    "map empty",
+    "map full",
+    "map marked past TBN",
+];
+
+/// The numbers of the lines of calls under each title, in order; W, w and k lines
+/// bear none.
+fn numbers_under_titles(lines: &str) -> Vec<(&str, Vec<(char, u8)>)> {
+    let mut found: Vec<(&str, Vec<(char, u8)>)> = vec![("", Vec::new())];
+    for line in lines.lines() {
+        if let Some(title) = line.strip_prefix("# ") {
+            found.push((title, Vec::new()));
+        } else if line.starts_with(['P', 'A', 'C', 'Q', 'S']) {
+            let number = line.split(' ').nth(1).unwrap().parse().unwrap();
+            let letter = line.chars().next().unwrap();
+            found.last_mut().unwrap().1.push((letter, number));
+        }
+    }
+    found
+}
+
+#[test]
+fn each_clause_alone_is_answered_with_9() {
+    let printed = lines(1, COUNT);
+    let mut seen: BTreeMap<&str, usize> = BTreeMap::new();
+    for (title, numbers) in numbers_under_titles(&printed) {
+        if let Some(clause) = title.strip_prefix("9 alone: ") {
+            let expected = [('P', 9), ('A', 9), ('C', 9), ('Q', 9)];
+            if numbers.len() == 4 {
+                *seen.entry(clause).or_default() += 1;
+            }
+            assert_eq!(numbers, expected[..numbers.len()], "{title}");
+        }
+    }
+    let mut clauses = CLAUSES;
+    clauses.sort_unstable();
+    assert_eq!(seen.into_keys().collect::<Vec<_>>(), clauses);
+}
+
+#[test]
+fn nine_comes_before_every_other_number() {
+    let printed = lines(1, COUNT);
+    let mut seen: BTreeMap<u8, usize> = BTreeMap::new();
+    for (title, numbers) in numbers_under_titles(&printed) {
+        let Some((number, clause)) = title
+            .strip_prefix("9 and ")
+            .and_then(|t| t.split_once(": "))
+        else {
+            continue;
+        };
+        assert!(CLAUSES.contains(&clause), "{title}");
+        let number: u8 = number.parse().unwrap();
+        if let [(before, first), (after, second)] = numbers[..] {
+            assert_eq!((before, first, second), (after, number, 9), "{title}");
+            *seen.entry(number).or_default() += 1;
+        }
+    }
+    assert_eq!(
+        seen.into_keys().collect::<Vec<_>>(),
+        (11..=22).collect::<Vec<_>>()
+    );
+}
+
+/// Drops and deaths by the clock, sixteen senders, and messages of 16,384 octets.
+#[test]
+fn drops_deaths_and_long_messages_occur() {
+    let printed = lines(1, COUNT);
+    let numbers = |letter: char| {
+        let of_letter = printed.lines().filter(move |line| line.starts_with(letter));
+        of_letter.map(|line| line.split(' ').skip(1).map(|n| n.parse::<u64>().unwrap()))
+    };
+    let at = |letter, place: usize| numbers(letter).filter_map(move |mut n| n.nth(place));
+    assert!(at('C', 1).any(|dropped| dropped != 0));
+    assert!(at('C', 2).any(|dead| dead != 0));
+    assert!(at('P', 2).any(|held| held == 11) && at('P', 2).any(|held| held == 63));
+    assert!(at('P', 3).any(|length| length == 16_384));
+    assert!(at('W', 4).any(|count| count == 16) && at('W', 4).any(|count| count == 0));
+    assert!(at('R', 0).any(|length| length == 0) && at('R', 0).any(|length| length > 10));
+}
