@@ -104,6 +104,9 @@ fn damage_is_written_between_the_calls() {
     assert_eq!(tags(&section("8.3 What is never looked at")), unseen);
     let nobody = ["s", &"sstPACQ".repeat(4)].concat();
     assert_eq!(tags(&section("8.4 No senders")), nobody);
+    let over = ["P", "P", "PWP", "P", "P", "A", "A", "C", "Q"].map(|calls| format!("scr{calls}W"));
+    let over = ["s", &over.concat()].concat();
+    assert_eq!(tags(&section("8.5 What is written over it")), over);
 }
 
 // Some fields, octet by octet.

@@ -531,6 +531,58 @@ fn damaged_states() {
     expect_rows("8.4 No senders", 4, &[(1, NOBODY)]);
 }
 
+/// A record that is not open, and full of what is never looked at.
+const JUNK: &str = "5 100 60000 65535 1 0 18446744073709551615 18446744073709551615";
+/// The record of a message not open as 01 has it written.
+const NOUGHT: &str = "0 0 0 0 0 0 0 0";
+/// A sender not alive, with a stamp and al_tm_out that are never looked at.
+const UNHEARD: &str = "0 18446744073709551615 4294967295";
+
+/// One row of 8.5: the call's line, then the state, with this of sender 0 (its
+/// last version and number, open and record, alive and the rest) and of sender 1
+/// (its last version and number).
+fn junk_row(line: &str, clock: u32, first: [&str; 3], second: &str) -> Vec<String> {
+    vec![
+        line.to_string(),
+        format!("W 0 16 15000 {clock} 2"),
+        format!("w 0 1 7 {}", first.join(" ")),
+        format!("w 1 2 9 {second} 0 0 0 0 0 0 0 0 0 0 0 0"),
+    ]
+}
+
+/// A delivery leaves nothing open: its sender's record is written 0. An alive
+/// signal writes the stamp and al_tm_out. Nothing else writes there.
+#[test]
+fn what_is_written_over_junk() {
+    let junk = format!("0 {JUNK}");
+    let nought = format!("0 {NOUGHT}");
+    let still = ["0 0", &junk, UNHEARD];
+    let open = ["0 0", "1 5 100 1 300 2 256 2 1000", UNHEARD];
+    let rows = [
+        junk_row(
+            "P 1 1 0 10 0 0 0",
+            1_000,
+            ["5 100", &nought, UNHEARD],
+            "0 0",
+        ),
+        junk_row("P 1 5 0 10 0 0 0", 1_000, ["0 0", &nought, UNHEARD], "0 0"),
+        junk_row("P 0 0 1 0 0 0 0", 1_000, open, "0 0"),
+        junk_row(
+            "P 1 1 0 300 0 0 0",
+            1_000,
+            ["5 100", &nought, UNHEARD],
+            "0 0",
+        ),
+        junk_row("P 13 0 0 0 0 0 0", 1_000, still, "0 0"),
+        junk_row("P 1 1 0 10 0 0 0", 1_000, still, "5 100"),
+        junk_row("A 0", 1_000, ["0 0", &junk, "1 1000 60"], "0 0"),
+        junk_row("A 0", 1_000, ["0 0", &junk, "0 0 0"], "0 0"),
+        junk_row("C 0 0 0", 1_001, still, "0 0"),
+        junk_row("Q 0 0 0 0", 1_000, still, "0 0"),
+    ];
+    assert_eq!(answers("8.5 What is written over it"), rows.concat());
+}
+
 /// ms 7000 is 0 to 7 seconds or more; ms 15000 is T, and 15 seconds.
 #[test]
 fn sixteen_senders() {

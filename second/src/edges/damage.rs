@@ -12,6 +12,7 @@ pub fn sections(past: &mut Past) {
     cut_and_map(past);
     never_looked_at(past);
     no_senders(past);
+    written_over(past);
 }
 
 /// "Each row of these sections starts with fresh() and then makes, printing
@@ -200,5 +201,38 @@ fn no_senders(past: &mut Past) {
             (state.test, state.n1, state.t) = (test, n1, t)
         });
         four_calls(past, 0);
+    }
+}
+
+/// What each row calls, on a record that is full of what is never looked at.
+const ON_JUNK: [fn(&mut Past); 9] = [
+    |past| past.number(5, 100),
+    |past| past.number(0, 1),
+    |past| {
+        past.piece([1, 7, 5, 100, 1, 300, 256, 2]);
+        past.show();
+        past.piece([1, 7, 5, 100, 1, 300, 256, 1]);
+    },
+    |past| past.laid(&[(20, 4, 0)]),
+    |past| past.piece([2, 9, 5, 100, 1, 10, 256, 1]),
+    |past| past.alive(1, 7, 1, 60),
+    |past| past.alive(1, 7, 2, 60),
+    |past| past.clock(1_001),
+    |past| past.ask(),
+];
+
+/// 01: "are written 0 and never looked at". Which calls write there is seen only
+/// where something else stood.
+fn written_over(past: &mut Past) {
+    past.section("8.5 What is written over it");
+    for calls in ON_JUNK {
+        past.fresh();
+        past.quietly(|past| past.clock(1_000));
+        change_sender(past, 0, |sender| {
+            not_open(sender);
+            not_alive(sender);
+        });
+        calls(past);
+        past.show();
     }
 }
