@@ -1,8 +1,8 @@
 //! A second, independent receiver for ADP R3.0 (MSTC/JOP 1101).
 //!
-//! It was written from the papers alone, to be compared line by line with the
-//! proved one. "01" is the paper `01-scope.md`, "001" the English ADP R3.0;
-//! words between quotation marks are theirs.
+//! It was written from the papers, to be compared line by line with the proved
+//! one, and takes nothing from the other's code. "01" is the paper `01-scope.md`,
+//! "001" the English ADP R3.0; words between quotation marks are theirs.
 
 pub mod alive;
 pub mod answers;

@@ -17,7 +17,7 @@ fn numbers(sized: &[(usize, u64)]) -> Vec<u8> {
 }
 
 /// "setup: mode (1), n1 (2), t (4), count (1), then data field (1) and node (2)
-/// of all 16 places." Also "A count of 17 is written with the 16 places."
+/// of all 16 places." Also "A count above 16 is written with the 16 places."
 pub fn setup(wanted: &Setup, places: &[(u8, u16)]) -> Vec<u8> {
     assert_eq!(places.len(), SENDERS_MOST);
     let mut contents = numbers(&[
