@@ -24,24 +24,18 @@ fn main() -> ExitCode {
         ["capture"] => input_text()
             .and_then(|text| text::capture_of(&text))
             .and_then(|capture| output(&capture)),
-        ["random", seed, count] => match (seed.parse(), count.parse()) {
-            (Ok(seed), Ok(count)) => output(&random::capture(seed, count)),
-            _ => return usage(),
-        },
+        [name @ ("random" | "edges-random" | "edges-random-calls"), seed, count] => {
+            match (seed.parse(), count.parse()) {
+                (Ok(seed), Ok(count)) => output(&made_of_seed(name, seed, count)),
+                _ => return usage(),
+            }
+        }
         ["random-cut", seed] => match seed.parse() {
             Ok(seed) => output(&random::cut_capture(seed)),
             Err(_) => return usage(),
         },
         ["edges"] => output(edges::lines().as_bytes()),
         ["edges-calls"] => output(&edges::calls_as_fields()),
-        ["edges-random", seed, count] => match (seed.parse(), count.parse()) {
-            (Ok(seed), Ok(count)) => output(edges::random::lines(seed, count).as_bytes()),
-            _ => return usage(),
-        },
-        ["edges-random-calls", seed, count] => match (seed.parse(), count.parse()) {
-            (Ok(seed), Ok(count)) => output(&edges::random::calls_as_fields(seed, count)),
-            _ => return usage(),
-        },
         ["tally"] => input_text()
             .and_then(|lines| counts::counts(&lines))
             .and_then(|counts| output(counts.as_bytes())),
@@ -53,6 +47,15 @@ fn main() -> ExitCode {
             eprintln!("second: {what}");
             ExitCode::from(1)
         }
+    }
+}
+
+/// What the subcommands make that take a seed and a count.
+fn made_of_seed(name: &str, seed: u64, count: usize) -> Vec<u8> {
+    match name {
+        "random" => random::capture(seed, count),
+        "edges-random" => edges::random::lines(seed, count).into_bytes(),
+        _ => edges::random::calls_as_fields(seed, count),
     }
 }
 

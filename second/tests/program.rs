@@ -112,7 +112,7 @@ fn a_wrong_line_is_told_on_standard_error() {
 
 #[test]
 fn unknown_words_give_the_usage() {
-    let wrong: [&[&str]; 8] = [
+    let wrong: [&[&str]; 11] = [
         &[],
         &["edge"],
         &["edges", "now"],
@@ -121,6 +121,9 @@ fn unknown_words_give_the_usage() {
         &["random", "1"],
         &["random", "x", "5"],
         &["random-cut"],
+        &["edges-random", "1"],
+        &["edges-random", "1", "x"],
+        &["edges-random-calls", "-1", "5"],
     ];
     for words in wrong {
         let output = second(words, b"");
@@ -182,6 +185,16 @@ fn random_captures_run_to_their_end() {
     let cut = second(&["random-cut", "5"], b"");
     let run = second(&["run"], &cut.stdout);
     assert!(lines(&run).ends_with("E\n"));
+}
+
+#[test]
+fn random_calls_are_printed_and_written() {
+    let printed = second(&["edges-random", "5", "200"], b"");
+    assert_eq!(lines(&printed), second::edges::random::lines(5, 200));
+    let calls = second(&["edges-random-calls", "5", "200"], b"");
+    assert_eq!(calls.stdout, second::edges::random::calls_as_fields(5, 200));
+    let tally = second(&["tally"], &printed.stdout);
+    assert_eq!(tally.status.code(), Some(0));
 }
 
 #[test]

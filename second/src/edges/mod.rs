@@ -3,7 +3,7 @@
 //!
 //! 01: "All others are run by a program and compared with an independent second
 //! one." `docs/EDGES.md` says what is run; every list here stands in its order,
-//! and the numbers of each call are those of its rows.
+//! and the numbers of each call are those of its rows. Random calls come besides.
 
 mod alive_and_clock;
 mod calls;
