@@ -6,7 +6,6 @@ ghost use Rattle.rules.specs.calls.Clock.{drops as dropsAt, dies as diesAt, age
 ghost use Rattle.state.specs.State.{noMessage, noHeard};
 use answers::Call;
 use answers::Ticked;
-use state::Address;
 use state::Heard;
 use state::Message;
 use state::Receiver;
@@ -15,8 +14,7 @@ use state::Sender;
 pub fn clock(mut state: Receiver, now: u64) -> Ticked
     ensures { λ r. ⌜ r ≡ clockAnswer state now ⌝ }
 {
-    let look = state.look(Address::NONE);
-    if !look.valid {
+    if !state.within() {
         return Ticked {
             call: Call::Refused(9),
             dropped: 0,
@@ -41,7 +39,8 @@ pub fn clock(mut state: Receiver, now: u64) -> Ticked
         let s = state.senders[i as usize];
         dropped = with_place(dropped, i, drops(s, t, now));
         dead = with_place(dead, i, dies(s, now));
-        state.senders[i as usize] = aged(s, t, now);
+        let next = aged(s, t, now);
+        state.senders[i as usize] = next;
         i += 1;
     }
     state.clock = now;

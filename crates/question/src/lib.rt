@@ -4,15 +4,13 @@ ghost use Rattle.rules.specs.calls.Question.{questionAnswer};
 ghost use Rattle.rules.specs.calls.QuestionLaws.{piecesOf};
 use answers::Missing;
 use map::holds;
-use state::Address;
 use state::Receiver;
 use state::Sender;
 
 pub fn question(state: Receiver) -> Missing
     ensures { λ r. ⌜ r ≡ questionAnswer state ⌝ }
 {
-    let look = state.look(Address::NONE);
-    if !look.valid {
+    if !state.within() {
         return Missing::Refused(9);
     }
     let count = state.count;
@@ -24,11 +22,9 @@ pub fn question(state: Receiver) -> Missing
         let pieces = pieces_of(s);
         let mut k: u8 = 0;
         while k < pieces {
-            if !holds(map, k + 1) {
-                missing = Missing::Piece {
-                    sender: i,
-                    piece: k + 1,
-                };
+            let piece = k + 1;
+            if !holds(map, piece) {
+                missing = Missing::Piece { sender: i, piece };
                 break 'senders;
             }
             k += 1;

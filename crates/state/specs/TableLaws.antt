@@ -1,18 +1,16 @@
 -- One pass over the table. Assumes nothing.
-use mathlib.Core.Path.{_≡_}
-use mathlib.Core.Bool.{Bool, true, cond, _&&_}
+use mathlib.Core.Path.{_≡_, sym, _∙_}
+use mathlib.Core.Bool.{Bool, true, false, cond, _&&_}
 use mathlib.Core.List.{List}
-use Prim.Native.Nat.{ℕ, _+_, _≤_}
+use Prim.Native.Nat.{ℕ, _+_}
 use native.Mathlib.Numerals.{add-one}
 use lib.Dec.{ltb}
-use borrow.Author.Tests.{le-leb}
 use Rattle.header.specs.declared.Head.{Head}
 use Rattle.state.specs.declared.Address.{Address}
 use Rattle.state.specs.declared.Look.{Look}
 use Rattle.state.specs.declared.Sender.{Sender}
 use Rattle.state.specs.declared.Receiver.{Receiver}
-use Rattle.state.specs.Limits.{sameAddress, addressAt, sendersMost, settingsWithin, sendersWithin, valid}
-use Rattle.state.specs.LimitsLaws.{valid-count}
+use Rattle.state.specs.Limits.{sameAddress, addressAt, settingsWithin, sendersWithin, valid}
 use Rattle.state.specs.State.{firstWhere}
 use Rattle.state.specs.Table.{source, find, found, lookAt}
 
@@ -22,12 +20,23 @@ pub find-more : (l : List Sender) (a : Address) (i at next : ℕ) (here : Bool) 
 unfolding firstWhere
 find-more l a i at next here e f g = rw (g, e, f, add-one i)
 
--- A state with few enough senders, after the whole pass.
-pub look-few : (w : Receiver) (a : Address) (settings all : Bool) (i at : ℕ) → w .count ≤ sendersMost → i ≡ w .count
-    → settings ≡ settingsWithin w → all ≡ settings && sendersWithin (w .clock) (w .senders) i → at ≡ find (w .senders) a i
-    → record { valid = all; at = at } ≡ lookAt w a
-unfolding lookAt valid
-look-few w a settings all i at few e s v f = rw (le-leb (w .count) sendersMost few, v, s, f, e)
+pub look-outside : (w : Receiver) (a : Address) → valid w ≡ false → record { valid = false; at = 0 } ≡ lookAt w a
+unfolding lookAt
+look-outside w a e = rw e
+
+-- The whole pass has judged the state, and found the place where it is within its limits.
+module _ (w : Receiver) (a : Address) (settings all : Bool) (i at : ℕ) (e : i ≡ w .count) (s : settings ≡ settingsWithin w)
+    (v : all ≡ settings && sendersWithin (w .clock) (w .senders) i) where
+  judged : all ≡ valid w
+  unfolding valid
+  judged = rw (v, s, e)
+
+  pub passed-outside : all ≡ false → record { valid = false; at = 0 } ≡ lookAt w a
+  passed-outside n = look-outside w a (sym judged ∙ n)
+
+  pub passed-within : all ≡ true → at ≡ find (w .senders) a i → record { valid = all; at = at } ≡ lookAt w a
+  unfolding lookAt
+  passed-within y f = rw (y, sym judged ∙ y, f, e)
 
 pub look-valid : (w : Receiver) (a : Address) (l : Look) → l ≡ lookAt w a → l .valid ≡ valid w
 unfolding lookAt
@@ -37,5 +46,5 @@ look-valid w a l e = rw e
 pub look-place : (w : Receiver) (h : Head) (l : Look) → l ≡ lookAt w (source h) → l .valid ≡ true → l .at ≡ found w h
 unfolding lookAt
 look-place w h l e v =
-    let few : w .count ≤ sendersMost = valid-count w (rw e at v) in
-    rw (e, le-leb (w .count) sendersMost few)
+    let ok : valid w ≡ true = rw e at v in
+    rw (e, ok)

@@ -6,7 +6,7 @@ ghost use mathlib.Core.Path.{_≡_};
 ghost use mathlib.Core.Bool.{cond, not, _||_};
 ghost use Prim.Native.Nat.{_+_, _≤_, _<_};
 ghost use lib.Dec.{ltb};
-ghost use Rattle.state.specs.Limits.{isAddress, sameAddress, lastWithin, messageWithin, senderWithin, settingsOf, addressesWithin};
+ghost use Rattle.state.specs.Limits.{isAddress, sameAddress, lastWithin, messageWithin, senderWithin, settingsOf, addressesWithin, valid};
 ghost use Rattle.state.specs.Key.{keyOf, newKey};
 ghost use Rattle.state.specs.KeyLaws.{Narrow};
 ghost use Rattle.state.specs.Table.{source as sourceOf, lookAt};
@@ -205,8 +205,17 @@ impl Receiver {
             senders: [Sender::NONE; Receiver::PLACES],
         }
     }
-    // One pass over the table: whether the state is within its limits (number 9), and at which place the sender with this
-    // address stands; the count where none does, and 0 in a state with more than 16 senders.
+
+    // Number 9: whether the state is within its limits.
+    pub fn within(self) -> bool
+        ensures { λ r. ⌜ r ≡ valid self ⌝ }
+    {
+        let look = self.look(Address::NONE);
+        look.valid
+    }
+
+    // One pass over the table, for the calls that need both: whether the state is within its limits, and where it is, at which
+    // place the sender with this address stands; the count where none does.
     pub fn look(self, a: Address) -> Look
         ensures { λ r. ⌜ r ≡ lookAt self a ⌝ }
     {
@@ -230,6 +239,12 @@ impl Receiver {
             seen[i as usize] = key;
             at = next_place(at, i, b.same(a));
             i += 1;
+        }
+        if !valid {
+            return Look {
+                valid: false,
+                at: 0,
+            };
         }
         Look { valid, at }
     }

@@ -7,7 +7,6 @@ use borrow.Author.Tests.{not-true, not-false}
 use Rattle.rules.specs.calls.Clock.{drops, dies, agedSenders, mapWhere, notTicked}
 use Rattle.rules.specs.calls.ClockLaws.{withSenders, map-again, map-below, state-more, ticked-is, clock-nine, clock-back, clock-on}
 use Rattle.state.specs.LimitsLaws.{valid-count}
-use Rattle.state.specs.TableLaws.{look-valid}
 use Rattle.state.specs.declared.Receiver.{Receiver}
 use Rattle.clock.proofs.clock.Statement.{statement}
 use Rattle.clock.proofs.clock.Tie as tie
@@ -20,31 +19,31 @@ Inv-loop now state₀ t count dropped₀ dead₀ i₀ state dropped dead i =
 abbrev μ-loop : tie.MeasureT-loop
 μ-loop now state₀ t count dropped₀ dead₀ i₀ state dropped dead i = count - i
 
-look-requires : tie.Need-look-requires Inv-loop μ-loop
-look-requires c κs = search needs
+within-requires : tie.Need-within-requires Inv-loop μ-loop
+within-requires c κs = search needs
 
 returns : tie.Need-returns Inv-loop μ-loop
 unfolding notTicked
 returns c =
-    let l = c .before .before in
+    let l = c .before in
     let a = l .before .args in
-    clock-nine (a .t1) (a .now) (sym (look-valid _ _ _ (l .look .ensures)) ∙ not-true _ (c .if1 .taken))
+    clock-nine (a .t1) (a .now) (sym (l .within .ensures) ∙ not-true _ (c .if1 .taken))
 
 returns-2 : tie.Need-returns-2 Inv-loop μ-loop
 unfolding notTicked
 returns-2 c =
     let ok = c .before in
-    let l = ok .before .before in
+    let l = ok .before in
     let a = l .before .args in
-    clock-back (a .t1) (a .now) (sym (look-valid _ _ _ (l .look .ensures)) ∙ not-false _ (ok .if1 .left)) (c .if2 .taken)
+    clock-back (a .t1) (a .now) (sym (l .within .ensures) ∙ not-false _ (ok .if1 .left)) (c .if2 .taken)
 
 loop-holds : tie.Need-loop-holds Inv-loop μ-loop
 unfolding mapWhere agedSenders
 loop-holds c =
     let ok = c .before in
-    let l = ok .before .before in
+    let l = ok .before in
     let a = l .before .args in
-    let v = sym (look-valid _ _ _ (l .look .ensures)) ∙ not-false _ (ok .if1 .left) in
+    let v = sym (l .within .ensures) ∙ not-false _ (ok .if1 .left) in
     (omega arith, valid-count (a .t1) v, refl, refl, refl)
 
 cast-s : tie.Need-cast-s Inv-loop μ-loop
@@ -75,14 +74,14 @@ with-place-requires-2 c κs =
 aged-requires : tie.Need-aged-requires Inv-loop μ-loop
 aged-requires c κs = search needs
 
-cast-t24 : tie.Need-cast-t24 Inv-loop μ-loop
-cast-t24 c = omega arith
+cast-next : tie.Need-cast-next Inv-loop μ-loop
+cast-next c = omega arith
 
-mul-t25 : tie.Need-mul-t25 Inv-loop μ-loop
-mul-t25 c = omega arith
+mul-next : tie.Need-mul-next Inv-loop μ-loop
+mul-next c = omega arith
 
-element-set-from-state : tie.Need-element-set-from-state Inv-loop μ-loop
-element-set-from-state c = omega arith
+element-set-from-next : tie.Need-element-set-from-next Inv-loop μ-loop
+element-set-from-next c = omega arith
 
 add-i : tie.Need-add-i Inv-loop μ-loop
 add-i c = omega arith
@@ -94,7 +93,7 @@ loop-again : tie.Need-loop-again Inv-loop μ-loop
 loop-again c =
     let dropped = c .before .before .before in
     let l = dropped .before .before .before .before .loop in
-    let a = dropped .before .before .before .before .before .before .before .before .before .args in
+    let a = dropped .before .before .before .before .before .before .before .before .args in
     let w = a .t1 in
     let m = ap (λ (v : Receiver). v .senders) (l .inv .4) in (
       omega arith,
@@ -109,9 +108,9 @@ returns-3 c =
     let l = c .before .loop in
     let on = c .before .before in
     let ok = on .before in
-    let looked = ok .before .before in
+    let looked = ok .before in
     let a = looked .before .args in
-    let v = sym (look-valid _ _ _ (looked .look .ensures)) ∙ not-false _ (ok .if1 .left) in
+    let v = sym (looked .within .ensures) ∙ not-false _ (ok .if1 .left) in
     ticked-is (a .t1) (l .state) (a .now) (l .i) _ _ (omega arith) (l .inv .4) (l .inv .2) (l .inv .3) ∙ clock-on (a .t1) (a .now) v (on .if2 .left)
 
 pub clock-spec : {M : Type 1} → statement M
@@ -120,7 +119,7 @@ clock-spec =
     (tie.spec
     Inv-loop
     μ-loop
-    look-requires
+    within-requires
     returns
     returns-2
     loop-holds
@@ -132,9 +131,9 @@ clock-spec =
     dies-requires
     with-place-requires-2
     aged-requires
-    cast-t24
-    mul-t25
-    element-set-from-state
+    cast-next
+    mul-next
+    element-set-from-next
     add-i
     loop-less
     loop-again

@@ -9,7 +9,6 @@ use Rattle.answers.specs.declared.Missing.the-variants.{NoneOpen}
 use Rattle.map.specs.Map.{holds}
 use Rattle.state.specs.LimitsLaws.{valid-count}
 use Rattle.state.specs.WithinLaws.{valid-sender}
-use Rattle.state.specs.TableLaws.{look-valid}
 use Rattle.rules.specs.calls.QuestionLaws.{all-held, question-none, question-piece, question-nine}
 use Rattle.state.specs.State.{senderAt}
 use borrow.Author.Needs.{needs}
@@ -29,14 +28,14 @@ Inv-senders state count missing₀ i₀ missing i = (i ≤ count) × (count ≤ 
 abbrev μ-senders : tie.MeasureT-senders
 μ-senders state count missing₀ i₀ missing i = count - i
 
-look-requires : tie.Need-look-requires Inv-loop μ-loop Inv-senders μ-senders
-look-requires c κs = search needs
+within-requires : tie.Need-within-requires Inv-loop μ-loop Inv-senders μ-senders
+within-requires c κs = search needs
 
 returns : tie.Need-returns Inv-loop μ-loop Inv-senders μ-senders
-returns c = question-nine _ (sym (look-valid _ _ _ (c .before .before .look .ensures)) ∙ not-true _ (c .if1 .taken))
+returns c = question-nine _ (sym (c .before .within .ensures) ∙ not-true _ (c .if1 .taken))
 
 senders-holds : tie.Need-senders-holds Inv-loop μ-loop Inv-senders μ-senders
-senders-holds c = (omega arith, valid-count _ (sym (look-valid _ _ _ (c .before .before .look .ensures)) ∙ not-false _ (c .if1 .left)), (λ j q. absurd (omega arith)), refl)
+senders-holds c = (omega arith, valid-count _ (sym (c .before .within .ensures) ∙ not-false _ (c .if1 .left)), (λ j q. absurd (omega arith)), refl)
 
 cast-s : tie.Need-cast-s Inv-loop μ-loop Inv-senders μ-senders
 cast-s c = search needs
@@ -53,14 +52,11 @@ pieces-of-requires c κs = search needs
 loop-holds : tie.Need-loop-holds Inv-loop μ-loop Inv-senders μ-senders
 loop-holds c = (omega arith, (λ j q. absurd (omega arith)), refl)
 
-add-holds : tie.Need-add-holds Inv-loop μ-loop Inv-senders μ-senders
-add-holds c = search needs
+add-piece : tie.Need-add-piece Inv-loop μ-loop Inv-senders μ-senders
+add-piece c = search needs
 
 holds-requires : tie.Need-holds-requires Inv-loop μ-loop Inv-senders μ-senders
 holds-requires c κs = search needs
-
-add-t25 : tie.Need-add-t25 Inv-loop μ-loop Inv-senders μ-senders
-add-t25 c = search needs
 
 add-k : tie.Need-add-k Inv-loop μ-loop Inv-senders μ-senders
 add-k c = search needs
@@ -79,21 +75,21 @@ senders-less c = search needs
 
 senders-again : tie.Need-senders-again Inv-loop μ-loop Inv-senders μ-senders
 senders-again c =
-    let w = c .before .before .before .before .before .before .before .before .before .args .t1 in
+    let w = c .before .before .before .before .before .before .before .before .args .t1 in
     let i = c .before .before .before .before .before .senders .i in
-    let ok = sym (look-valid _ _ _ (c .before .before .before .before .before .before .before .before .look .ensures)) ∙ not-false _ (c .before .before .before .before .before .before .if1 .left) in
+    let ok = sym (c .before .before .before .before .before .before .before .within .ensures) ∙ not-false _ (c .before .before .before .before .before .before .if1 .left) in
     let held : Held (senderAt w i) (piecesOf (senderAt w i)) = λ j q. c .before .loop .inv .1 j (omega (arith, c .before .before .pieces-of .ensures)) in
     let closed = all-held (w .clock) (senderAt w i) (valid-sender w ok i (c .before .before .before .before .senders-test .taken)) held in
     (omega arith, c .before .before .before .before .before .senders .inv .1, below-more _ _ (c .before .before .before .before .before .senders .inv .2) closed, c .before .loop .inv .2 ∙ c .before .before .before .before .before .senders .inv .3)
 
 returns-2 : tie.Need-returns-2 Inv-loop μ-loop Inv-senders μ-senders
-returns-2 c = c .before .senders .inv .3 ∙ question-none _ (sym (look-valid _ _ _ (c .before .before .before .before .look .ensures)) ∙ not-false _ (c .before .before .if1 .left)) (c .before .senders .i) (omega arith) (c .before .senders .inv .2)
+returns-2 c = c .before .senders .inv .3 ∙ question-none _ (sym (c .before .before .before .within .ensures) ∙ not-false _ (c .before .before .if1 .left)) (c .before .senders .i) (omega arith) (c .before .senders .inv .2)
 
 returns-3 : tie.Need-returns-3 Inv-loop μ-loop Inv-senders μ-senders
 returns-3 c =
-    let w = c .before .before .before .before .before .before .before .before .before .before .before .args .t1 in
+    let w = c .before .before .before .before .before .before .before .before .before .before .args .t1 in
     let i = c .before .before .before .before .before .before .before .senders .i in
-    let ok = sym (look-valid _ _ _ (c .before .before .before .before .before .before .before .before .before .before .look .ensures)) ∙ not-false _ (c .before .before .before .before .before .before .before .before .if1 .left) in
+    let ok = sym (c .before .before .before .before .before .before .before .before .before .within .ensures) ∙ not-false _ (c .before .before .before .before .before .before .before .before .if1 .left) in
     let miss = sym (c .before .holds .ensures) ∙ not-true _ (c .if2 .taken) in
     question-piece w ok i (c .before .before .before .loop .k) (c .before .before .before .before .before .before .senders-test .taken) (c .before .before .before .before .before .before .before .senders .inv .2) (omega (arith, c .before .before .before .before .pieces-of .ensures)) (c .before .before .before .loop .inv .1) miss
 
@@ -105,7 +101,7 @@ question-spec =
     μ-loop
     Inv-senders
     μ-senders
-    look-requires
+    within-requires
     returns
     senders-holds
     cast-s
@@ -113,9 +109,8 @@ question-spec =
     element-copy-out-s
     pieces-of-requires
     loop-holds
-    add-holds
+    add-piece
     holds-requires
-    add-t25
     add-k
     loop-less
     loop-again

@@ -4,13 +4,13 @@ use mathlib.Core.Path.{_≡_, refl, sym}
 use mathlib.Core.Bool.{_&&_, and-true}
 use native.Mathlib.Omega.{arith}
 use borrow.Author.Needs.{needs}
-use borrow.Author.Tests.{lt-leb}
+use borrow.Author.Tests.{not-true, not-false}
 use lib.ListN.{length, length-set}
 use Rattle.state.specs.Limits.{sendersWithin, addressAt}
 use Rattle.state.specs.LimitsLaws.{senders-more, valid-few}
 use Rattle.state.specs.KeyLaws.{Seen, seen-none, seen-more, new-seen}
-use Rattle.state.specs.Table.{find, lookAt}
-use Rattle.state.specs.TableLaws.{find-more, look-few}
+use Rattle.state.specs.Table.{find}
+use Rattle.state.specs.TableLaws.{find-more, look-outside, passed-outside, passed-within}
 use Rattle.state.specs.State.{firstWhere}
 use Rattle.state.proofs.Receiver.look.Statement.{statement}
 use Rattle.state.proofs.Receiver.look.Tie as tie
@@ -24,8 +24,9 @@ abbrev μ-loop : tie.MeasureT-loop
 μ-loop a self count clock valid₀ at₀ seen₀ i₀ valid at seen i = count - i
 
 returns : tie.Need-returns Inv-loop μ-loop
-unfolding lookAt
-returns c = let w = c .before .args .t1 in rw (valid-few w (c .if1 .taken), lt-leb (w .count) 16 (c .if1 .taken))
+returns c =
+    let a = c .before .args in
+    look-outside (a .t1) (a .a) (valid-few (a .t1) (c .if1 .taken))
 
 settings-within-requires : tie.Need-settings-within-requires Inv-loop μ-loop
 settings-within-requires c κs = search needs
@@ -93,10 +94,17 @@ loop-again c =
 
 returns-2 : tie.Need-returns-2 Inv-loop μ-loop
 returns-2 c =
-    let l = c .before .loop in
-    let judged = c .before .before in
-    let a = judged .before .before .args in
-    look-few (a .t1) (a .a) _ _ (l .i) _ (omega arith) (omega arith) (judged .settings-within .ensures) (l .inv .4) (l .inv .5)
+    let l = c .before .before .loop in
+    let first = c .before .before .before in
+    let a = first .before .before .args in
+    passed-outside (a .t1) (a .a) _ _ (l .i) (l .at) (omega arith) (first .settings-within .ensures) (l .inv .4) (not-true _ (c .if2 .taken))
+
+returns-3 : tie.Need-returns-3 Inv-loop μ-loop
+returns-3 c =
+    let l = c .before .before .loop in
+    let first = c .before .before .before in
+    let a = first .before .before .args in
+    passed-within (a .t1) (a .a) _ _ (l .i) (l .at) (omega arith) (first .settings-within .ensures) (l .inv .4) (not-false _ (c .if2 .left)) (l .inv .5)
 
 pub look-spec : {M : Type 1} → statement M
 look-spec =
@@ -121,4 +129,5 @@ look-spec =
     add-i
     loop-less
     loop-again
-    returns-2)
+    returns-2
+    returns-3)
