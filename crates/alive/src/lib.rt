@@ -17,17 +17,17 @@ use signal::Body;
 use signal::SIZE;
 use signal::group;
 use signal::read_body;
+use state::Address;
 use state::Heard;
 use state::Receiver;
 use state::Sender;
-use state::source;
 
 pub fn alive(mut state: Receiver, packet: &[u8]) -> Noted
     ensures { λ r. ⌜ r ≡ aliveAnswer state (now (packet .entry)) ⌝ }
 {
     let h = read_head(packet);
     let body = read_body(packet);
-    let look = state.look(source(h));
+    let look = state.look(Address::of(h));
     let at = look.at;
     let number = signal_number(look.valid, state.count, at, packet, h, body);
     if number != 0 {

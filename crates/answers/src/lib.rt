@@ -62,7 +62,7 @@ pub struct Setup {
     pub n1: u16,
     pub t: u32,
     pub count: u8,
-    pub senders: [Address; 16],
+    pub senders: [Address; Receiver::PLACES],
 }
 
 // What became of a call that takes no message.

@@ -4,7 +4,7 @@ use mathlib.Core.List.{List, [], _∷_}
 use lib.ListN.{length, take, drop, set, replicate}
 use Rattle.ring.specs.Check.{verdictNumber}
 use Rattle.state.specs.declared.Address.{Address}
-use Rattle.state.specs.State.{noAddress}
+use Rattle.state.specs.State.{sendersMost, noAddress}
 use Rattle.answers.specs.declared.Answer.{Answer}
 use Rattle.answers.specs.declared.Outcome.{Outcome}
 use Rattle.answers.specs.declared.Outcome.the-variants.{Refused, Stored, Delivered}
@@ -19,14 +19,14 @@ use Rattle.rules.specs.calls.Setup.{setupAnswer}
 abbrev pub nodeOf : ℕ → Address
 nodeOf k = record { field = record { 0 = 1 }; node = record { 0 = k } }
 
--- The first k of 16 places hold the nodes 1 to k.
+-- The first k of the places hold the nodes 1 to k.
 unfoldable pub nodesTo : ℕ → List Address
-nodesTo zero = replicate 16 noAddress
+nodesTo zero = replicate sendersMost noAddress
 nodesTo (suc k) = set (nodesTo k) k (nodeOf (suc k))
 
 -- A node whose senders are the nodes 1 to `count` of data field 1.
 abbrev pub boardOf : ℕ → ℕ → ℕ → ℕ → Setup
-boardOf mode n1 t count = record { mode = mode; n1 = n1; t = t; count = count; senders = nodesTo 16 }
+boardOf mode n1 t count = record { mode = mode; n1 = n1; t = t; count = count; senders = nodesTo sendersMost }
 
 unfoldable pub begun : Setup → List ℕ → World
 begun q storage = record { state = setupAnswer q .state; storage = storage }

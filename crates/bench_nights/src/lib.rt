@@ -4,6 +4,7 @@
 // What is answered is one number made of all answers, so that none can be left out and two programs are quickly compared.
 ghost use mathlib.Core.Path.{_≡_};
 ghost use Rattle.octets.specs.Run.{run};
+ghost use Rattle.state.specs.State.{sendersMost};
 ghost use Rattle.rules.specs.pasts.Past.{after};
 ghost use Rattle.bench_nights.specs.Night.{nodesTo, boardOf, begun, packetsBy, told as toldOf, summed, nightSum};
 ghost use Rattle.bench_nights.specs.Cuts.{givenOf, cutSum, cutsSum, cutsBuffer};
@@ -21,6 +22,7 @@ use ring::Number;
 use ring::Version;
 use setup::setup;
 use state::Address;
+use state::Receiver;
 use std::num::wrapping_add_u64;
 
 // A night of a receiver with these settings and this many senders: packet after packet, each as long as its size says.
@@ -74,16 +76,17 @@ pub extern "C" fn adp_cuts(number: u32, message: &[u8], u: u16, last: u8, buffer
 
 // ---- what a night starts with
 
-// The nodes 1 to 16 of data field 1.
-fn nodes() -> [Address; 16]
-    ensures { λ r. ⌜ r ≡ nodesTo 16 ⌝ }
+// As many nodes as there are places, from 1 on, of data field 1.
+fn nodes() -> [Address; Receiver::PLACES]
+    ensures { λ r. ⌜ r ≡ nodesTo sendersMost ⌝ }
 {
-    let mut nodes = [Address::NONE; 16];
+    let mut nodes = [Address::NONE; Receiver::PLACES];
     let mut i: u16 = 0;
-    while i < 16 {
+    while (i as usize) < Receiver::PLACES {
+        let number = i + 1;
         let a = Address {
             field: DataField(1),
-            node: Node(i + 1),
+            node: Node(number),
         };
         nodes[i as usize] = a;
         i += 1;

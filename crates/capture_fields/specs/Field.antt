@@ -8,7 +8,7 @@ use Rattle.octets.specs.Number.{number}
 use Rattle.octets.specs.Run.{run}
 use Rattle.state.specs.declared.Address.{Address}
 use Rattle.answers.specs.declared.Setup.{Setup}
-use Rattle.state.specs.State.{noAddress}
+use Rattle.state.specs.State.{sendersMost, noAddress}
 use Rattle.capture_fields.specs.declared.Kind.{Kind}
 use Rattle.capture_fields.specs.declared.Kind.the-variants as kind
 use Rattle.capture_fields.specs.declared.Next.{Next}
@@ -67,7 +67,7 @@ setupOf s = record {
   n1 = number 2 s 1;
   t = number 4 s 3;
   count = sendersOf (length s);
-  senders = set (set (set (set (replicate 16 noAddress) 0 (addressIn s 7)) 1 (addressIn s 10)) 2 (addressIn s 13)) 3 (addressIn s 16);
+  senders = set (set (set (set (replicate sendersMost noAddress) 0 (addressIn s 7)) 1 (addressIn s 10)) 2 (addressIn s 13)) 3 (addressIn s 16);
 }
 
 -- "3 clock (8 octets)"

@@ -13,6 +13,7 @@ use octets::read2;
 use octets::read4;
 use octets::read8;
 use state::Address;
+use state::Receiver;
 
 // The octets in front of a field's contents: its tag and its length.
 pub const HEAD: usize = 3;
@@ -104,7 +105,7 @@ pub fn contents(octets: &[u8], length: usize) -> &[u8]
 pub fn setup_of(contents: &[u8]) -> Setup
     ensures { λ r. ⌜ r ≡ setupOf (now (contents .entry)) ⌝ }
 {
-    let mut senders = [Address::NONE; 16];
+    let mut senders = [Address::NONE; Receiver::PLACES];
     senders[0] = address_in(contents, 7);
     senders[1] = address_in(contents, 10);
     senders[2] = address_in(contents, 13);

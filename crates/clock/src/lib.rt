@@ -3,7 +3,7 @@ ghost use mathlib.Core.Path.{_≡_};
 ghost use mathlib.Core.Bool.{cond};
 ghost use Prim.Native.Nat.{_+_, _-_, _*_, _^_, _<_};
 ghost use Rattle.rules.specs.calls.Clock.{drops as dropsAt, dies as diesAt, aged as agedAt, clockAnswer};
-ghost use Rattle.state.specs.State.{noMessage, noHeard};
+ghost use Rattle.state.specs.State.{sendersMost, noMessage, noHeard};
 use answers::Call;
 use answers::Ticked;
 use state::Heard;
@@ -75,7 +75,7 @@ fn since(stamp: u64, now: u64) -> u64
 
 // The map with the place i, where something holds of its sender.
 fn with_place(map: u16, i: u8, here: bool) -> u16
-    requires { ⌜ (i < 16) × (map < 2 ^ i) ⌝ }
+    requires { ⌜ (i < sendersMost) × (map < 2 ^ i) ⌝ }
     ensures { λ r. ⌜ r ≡ map + cond here (2 ^ i) 0 ⌝ }
 {
     if here { map + (1u16 << i) } else { map }

@@ -102,10 +102,10 @@ fn setup_in(contents: &[u8]) -> Setup {
     }
 }
 
-fn addresses(contents: &[u8]) -> [Address; 16] {
-    let mut senders = [Address::NONE; 16];
+fn addresses(contents: &[u8]) -> [Address; Receiver::PLACES] {
+    let mut senders = [Address::NONE; Receiver::PLACES];
     let mut i: usize = 0;
-    while i < 16 {
+    while i < Receiver::PLACES {
         senders[i] = address(contents, 8 + 3 * i);
         i += 1;
     }

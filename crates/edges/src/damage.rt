@@ -1,5 +1,6 @@
 // Damage: values of the state in use become those of a field, whatever they are.
 ghost use Prim.Native.Nat.{_<_};
+ghost use Rattle.state.specs.State.{sendersMost};
 use crate::calls::address;
 use octets::read1;
 use octets::read2;
@@ -30,9 +31,9 @@ pub(crate) fn with_sender(mut w: Receiver, contents: &[u8]) -> Receiver {
 }
 
 fn place_in(contents: &[u8]) -> usize
-    ensures { λ r. ⌜ r < 16 ⌝ }
+    ensures { λ r. ⌜ r < sendersMost ⌝ }
 {
-    (read1(contents, 0) % 16) as usize
+    read1(contents, 0) as usize % Receiver::PLACES
 }
 
 fn sender_in(contents: &[u8]) -> Sender {

@@ -20,7 +20,7 @@ pub fn state_lines(w: Receiver) {
 fn sender_lines(w: Receiver) {
     let count = w.count;
     let mut i: u8 = 0;
-    while i < 16 {
+    while (i as usize) < Receiver::PLACES {
         let s = w.senders[i as usize];
         if i < count {
             sender_line(i, s);

@@ -6,6 +6,7 @@ ghost use lib.ListN.{length};
 ghost use Rattle.cut.specs.Possible.{possible};
 ghost use Rattle.rules.specs.calls.Admit.{refusedNumber};
 ghost use Rattle.rules.specs.calls.First.{first};
+ghost use Rattle.state.specs.State.{sendersMost};
 ghost use Rattle.rules.specs.calls.Message.{packetRows, headWithin, storageAfter, liesAt, whereBy, messageAnswer, messageStorage};
 use answers::Answer;
 use answers::Dropped;
@@ -22,15 +23,15 @@ use header::is_fixed;
 use header::read_head;
 use octets::lay;
 use sender::admit;
+use state::Address;
 use state::Receiver;
-use state::source;
 
 pub fn message(mut state: Receiver, storage: &mut [u8], packet: &[u8]) -> Answer
     ensures answer { λ r. ⌜ r ≡ messageAnswer state (length (now (storage .entry))) (now (packet .entry)) ⌝ }
     ensures stored { λ _. ⌜ now (storage .exit) ≡ messageStorage state (now (storage .entry)) (now (packet .entry)) ⌝ }
 {
     let h = read_head(packet);
-    let look = state.look(source(h));
+    let look = state.look(Address::of(h));
     let at = look.at;
     let early = packet_number(look.valid, state.count, at, storage.len(), packet, h);
     if early != 0 {
@@ -115,7 +116,7 @@ fn refused_number(o: Outcome) -> u8
 
 // Where the message lies, if it was delivered.
 fn where_to(o: Outcome, at: u8, h: Head) -> Where
-    requires { ⌜ at < 16 ⌝ }
+    requires { ⌜ at < sendersMost ⌝ }
     ensures { λ r. ⌜ r ≡ whereBy o at h ⌝ }
 {
     match o {
@@ -127,7 +128,7 @@ fn where_to(o: Outcome, at: u8, h: Head) -> Where
 
 // A message of one piece lies behind its header, one of several at the start of its sender's area.
 fn lies(at: u8, h: Head) -> Where
-    requires { ⌜ at < 16 ⌝ }
+    requires { ⌜ at < sendersMost ⌝ }
     ensures { λ r. ⌜ r ≡ liesAt at h ⌝ }
 {
     let cut = h.cut;
@@ -142,7 +143,7 @@ fn lies(at: u8, h: Head) -> Where
 
 // Lays a piece of several down in its sender's area.
 fn store(storage: &mut [u8], at: u8, h: Head, packet: &[u8])
-    requires { ⌜ (at < 16) × (possible (h .cut) ≡ true) × (length (now packet) ≡ h .cut .bsize) ⌝ }
+    requires { ⌜ (at < sendersMost) × (possible (h .cut) ≡ true) × (length (now packet) ≡ h .cut .bsize) ⌝ }
     ensures { λ _. ⌜ now (storage .exit) ≡ storageAfter (now (storage .entry)) at h (now (packet .entry)) ⌝ }
 {
     let cut = h.cut;

@@ -11,13 +11,13 @@ use Rattle.answers.specs.declared.Setup.{Setup}
 use Rattle.rules.specs.calls.Setup.{newSenders, setupState}
 use Rattle.state.specs.declared.Address.{Address}
 use Rattle.state.specs.declared.Receiver.{Receiver}
-use Rattle.state.specs.State.{noSender, emptyReceiver}
+use Rattle.state.specs.State.{sendersMost, noSender, emptyReceiver}
 
 unfoldable pub settled : Setup → Bool → Receiver
 settled q within =
-    cond within (record { test = eqb (q .mode) 1; n1 = q .n1; t = q .t; clock = 0; count = q .count; senders = replicate 16 noSender }) emptyReceiver
+    cond within (record { test = eqb (q .mode) 1; n1 = q .n1; t = q .t; clock = 0; count = q .count; senders = replicate sendersMost noSender }) emptyReceiver
 
-pub settled-few : (q : Setup) (within : Bool) → (within ≡ true → q .count ≤ 16) → settled q within .count ≤ 16
+pub settled-few : (q : Setup) (within : Bool) → (within ≡ true → q .count ≤ sendersMost) → settled q within .count ≤ sendersMost
 unfolding settled
 settled-few q true few = few refl
 settled-few q false few = omega arith

@@ -4,7 +4,7 @@ ghost use mathlib.Core.Bool.{true, cond};
 ghost use Prim.Native.Nat.{_≤_};
 ghost use Rattle.rules.specs.calls.Setup.{setupWithin, setupState, setupAnswer};
 ghost use Rattle.setup.specs.Settled.{settled as settledBy};
-ghost use Rattle.state.specs.State.{newSender, emptyReceiver};
+ghost use Rattle.state.specs.State.{sendersMost, newSender, emptyReceiver};
 use answers::Call;
 use answers::Setup;
 use answers::Started;
@@ -14,7 +14,6 @@ use state::Last;
 use state::Message;
 use state::Receiver;
 use state::Sender;
-use state::addresses_within;
 
 pub fn setup(q: Setup) -> Started
     ensures { λ r. ⌜ r ≡ setupAnswer q ⌝ }
@@ -40,8 +39,8 @@ fn setup_within(q: Setup) -> bool
     (q.mode <= 1)
         & ((1 <= q.n1) & (q.n1 <= Receiver::N1_MOST))
         & ((1 <= q.t) & (q.t <= Receiver::DROP_TIME_MOST))
-        & ((1 <= q.count) & (q.count <= 16))
-        & addresses_within(senders, q.count)
+        & ((1 <= q.count) & (q.count as usize <= Receiver::PLACES))
+        & Address::all_within(senders, q.count)
 }
 
 // The empty state, or for a setup within its limits one with its settings.
@@ -65,7 +64,7 @@ fn settled(q: Setup, within: bool) -> Receiver
 
 // Both answers' states come out of one loop: made on two ways, a state would be copied field by field wherever it goes.
 fn new_state(q: Setup, within: bool) -> Receiver
-    requires { ⌜ (within ≡ true → q .count ≤ 16) ⌝ }
+    requires { ⌜ (within ≡ true → q .count ≤ sendersMost) ⌝ }
     ensures { λ r. ⌜ r ≡ cond within (setupState q) emptyReceiver ⌝ }
 {
     let mut state = settled(q, within);

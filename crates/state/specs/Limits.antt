@@ -15,7 +15,7 @@ use Rattle.state.specs.declared.Message.{Message}
 use Rattle.state.specs.declared.Address.{Address}
 use Rattle.state.specs.declared.Sender.{Sender}
 use Rattle.state.specs.declared.Receiver.{Receiver}
-use Rattle.state.specs.State.{noAddress, noSender}
+use Rattle.state.specs.State.{sendersMost, noAddress, noSender}
 
 -- "N1 (1 to 1,024), the drop time T in ms (1 to 600,000)"
 abbrev pub isN1 : ℕ → Bool
@@ -28,10 +28,7 @@ isDropTime = within 1 600000
 abbrev pub clockMost : ℕ
 clockMost = 1099511627776
 
--- "1 to 16 senders, each a data field and a node"
-abbrev pub sendersMost : ℕ
-sendersMost = 16
-
+-- "each a data field and a node"
 abbrev pub isAddress : Address → Bool
 isAddress a = isDataField (a .field .0) && isNode (a .node .0)
 

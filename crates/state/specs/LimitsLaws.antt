@@ -12,8 +12,8 @@ use Rattle.octets.specs.Split.{lt-or-le, never-both}
 use Rattle.state.specs.declared.Address.{Address}
 use Rattle.state.specs.declared.Sender.{Sender}
 use Rattle.state.specs.declared.Receiver.{Receiver}
-use Rattle.state.specs.Limits.{isAddress, sameAddress, senderWithin, newAmong, given, addressesWithin, addressAt, sendersWithin, sendersMost, settingsOf, valid}
-use Rattle.state.specs.State.{noAddress, noSender}
+use Rattle.state.specs.Limits.{isAddress, sameAddress, senderWithin, newAmong, given, addressesWithin, addressAt, sendersWithin, settingsOf, valid}
+use Rattle.state.specs.State.{sendersMost, noAddress, noSender}
 
 pub new-ext : (f g : ℕ → Address) (k : ℕ) (a : Address) → ((j : ℕ) → j < k → f j ≡ g j) → newAmong f k a ≡ newAmong g k a
 unfolding newAmong

@@ -11,6 +11,10 @@ use Rattle.state.specs.declared.Address.{Address}
 use Rattle.state.specs.declared.Sender.{Sender}
 use Rattle.state.specs.declared.Receiver.{Receiver}
 
+-- "1 to 16 senders"
+abbrev pub sendersMost : ℕ
+sendersMost = 16
+
 -- "every last version and number is 0"
 abbrev pub noLast : Last
 noLast = record { version = record { 0 = 0 }; number = record { 0 = 0 } }
@@ -43,4 +47,4 @@ firstWhere f l (suc k) = cond (ltb (firstWhere f l k) k) (firstWhere f l k) (con
 
 -- "An empty state, with no senders, is what a refused setup returns (online, N1 1, T 1)"
 abbrev pub emptyReceiver : Receiver
-emptyReceiver = record { test = false; n1 = 1; t = 1; clock = 0; count = 0; senders = replicate 16 noSender }
+emptyReceiver = record { test = false; n1 = 1; t = 1; clock = 0; count = 0; senders = replicate sendersMost noSender }

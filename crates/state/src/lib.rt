@@ -6,11 +6,11 @@ ghost use mathlib.Core.Path.{_≡_};
 ghost use mathlib.Core.Bool.{cond, not, _||_};
 ghost use Prim.Native.Nat.{_+_, _≤_, _<_};
 ghost use lib.Dec.{ltb};
-ghost use Rattle.state.specs.Limits.{isAddress, sameAddress, lastWithin, messageWithin, senderWithin, settingsOf, addressesWithin, valid};
+ghost use Rattle.state.specs.Limits.{isAddress, sameAddress, lastWithin, messageWithin, senderWithin, settingsWithin, addressesWithin, valid};
 ghost use Rattle.state.specs.Key.{keyOf, newKey};
 ghost use Rattle.state.specs.KeyLaws.{Narrow};
-ghost use Rattle.state.specs.Table.{source as sourceOf, lookAt};
-ghost use Rattle.state.specs.State.{emptyReceiver};
+ghost use Rattle.state.specs.Table.{source, lookAt};
+ghost use Rattle.state.specs.State.{sendersMost, emptyReceiver};
 use cut::possible::several;
 use header::Head;
 use header::codes::DataField;
@@ -69,7 +69,7 @@ pub struct Receiver {
     pub t: u32,
     pub clock: u64,
     pub count: u8,
-    pub senders: [Sender; 16],
+    pub senders: [Sender; Receiver::PLACES],
 }
 
 impl Address {
@@ -77,6 +77,16 @@ impl Address {
         field: DataField(0),
         node: Node(0),
     };
+
+    // Where a PDU comes from.
+    pub fn of(h: Head) -> Address
+        ensures { λ r. ⌜ r ≡ source h ⌝ }
+    {
+        let given = h.given;
+        let field = given.field;
+        let node = given.node;
+        Address { field, node }
+    }
 
     pub fn within(self) -> bool
         ensures { λ r. ⌜ r ≡ isAddress self ⌝ }
@@ -98,16 +108,26 @@ impl Address {
     {
         self.field.0 as u32 * 65_536 + self.node.0 as u32
     }
-}
 
-// Where a PDU comes from.
-pub fn source(h: Head) -> Address
-    ensures { λ r. ⌜ r ≡ sourceOf h ⌝ }
-{
-    let given = h.given;
-    let field = given.field;
-    let node = given.node;
-    Address { field, node }
+    // Whether the first count addresses are within their limits, and none stands there twice.
+    pub fn all_within(senders: [Address; Receiver::PLACES], count: u8) -> bool
+        ensures { λ r. ⌜ r ≡ addressesWithin senders count ⌝ }
+    {
+        if Receiver::PLACES < count as usize {
+            return false;
+        }
+        let mut within = true;
+        let mut seen = [0u32; Receiver::PLACES];
+        let mut i: u8 = 0;
+        while i < count {
+            let a = senders[i as usize];
+            let key = a.key();
+            within = within & (a.within() & fresh(&seen, i, key));
+            seen[i as usize] = key;
+            i += 1;
+        }
+        within
+    }
 }
 
 impl Last {
@@ -170,11 +190,21 @@ impl Sender {
     {
         let address = self.address;
         let last = self.last;
-        let message = self.message;
         address.within()
             & last.within()
-            & open_within(self.open, message, clock)
+            & self.message_within(clock)
             & (!self.alive | (self.heard.stamp <= clock))
+    }
+
+    // Only an open message is looked at.
+    fn message_within(self, clock: u64) -> bool
+        ensures { λ r. ⌜ r ≡ (not (self .«open») || messageWithin clock (self .message)) ⌝ }
+    {
+        let message = self.message;
+        if self.open {
+            return message.within(clock);
+        }
+        true
     }
 }
 
@@ -214,22 +244,33 @@ impl Receiver {
         look.valid
     }
 
+    // The settings, the clock and the count; of the states without senders only the empty one passes.
+    fn settings_within(self) -> bool
+        ensures { λ r. ⌜ r ≡ settingsWithin self ⌝ }
+    {
+        (self.clock <= Receiver::CLOCK_MOST)
+            & (self.count as usize <= Receiver::PLACES)
+            & ((1 <= self.n1) & (self.n1 <= Receiver::N1_MOST))
+            & ((1 <= self.t) & (self.t <= Receiver::DROP_TIME_MOST))
+            & ((0 < self.count) | (!self.test & (self.n1 == 1) & (self.t == 1)))
+    }
+
     // One pass over the table, for the calls that need both: whether the state is within its limits, and where it is, at which
     // place the sender with this address stands; the count where none does.
     pub fn look(self, a: Address) -> Look
         ensures { λ r. ⌜ r ≡ lookAt self a ⌝ }
     {
         let count = self.count;
-        if 16 < count {
+        if Receiver::PLACES < count as usize {
             return Look {
                 valid: false,
                 at: 0,
             };
         }
         let clock = self.clock;
-        let mut valid = settings_within(self.test, self.n1, self.t, clock, count);
+        let mut valid = self.settings_within();
         let mut at = 0;
-        let mut seen = [0u32; 16];
+        let mut seen = [0u32; Receiver::PLACES];
         let mut i: u8 = 0;
         while i < count {
             let s = self.senders[i as usize];
@@ -237,7 +278,7 @@ impl Receiver {
             let key = b.key();
             valid = valid & (s.within(clock) & fresh(&seen, i, key));
             seen[i as usize] = key;
-            at = next_place(at, i, b.same(a));
+            at = Look::next_place(at, i, b.same(a));
             i += 1;
         }
         if !valid {
@@ -250,56 +291,28 @@ impl Receiver {
     }
 }
 
-// Only an open message is looked at.
-fn open_within(open: bool, m: Message, clock: u64) -> bool
-    ensures { λ r. ⌜ r ≡ (not «open» || messageWithin clock m) ⌝ }
-{
-    if open {
-        return m.within(clock);
-    }
-    true
-}
-
 // What one pass over the table finds.
 pub struct Look {
     pub valid: bool,
     pub at: u8,
 }
 
-// The settings, the clock and the count; of the states without senders only the empty one passes.
-fn settings_within(test: bool, n1: u16, t: u32, clock: u64, count: u8) -> bool
-    ensures { λ r. ⌜ r ≡ settingsOf test n1 t clock count ⌝ }
-{
-    (clock <= Receiver::CLOCK_MOST)
-        & (count <= 16)
-        & ((1 <= n1) & (n1 <= Receiver::N1_MOST))
-        & ((1 <= t) & (t <= Receiver::DROP_TIME_MOST))
-        & ((0 < count) | (!test & (n1 == 1) & (t == 1)))
-}
-
-// Whether the first count addresses are within their limits, and none stands there twice.
-pub fn addresses_within(senders: [Address; 16], count: u8) -> bool
-    ensures { λ r. ⌜ r ≡ addressesWithin senders count ⌝ }
-{
-    if 16 < count {
-        return false;
+impl Look {
+    // The place of the first that was found, once one more was looked at.
+    fn next_place(at: u8, i: u8, here: bool) -> u8
+        requires { ⌜ i < sendersMost ⌝ }
+        ensures { λ r. ⌜ r ≡ cond (ltb at i) at (cond here i (i + 1)) ⌝ }
+    {
+        if at < i {
+            return at;
+        }
+        if here { i } else { i + 1 }
     }
-    let mut within = true;
-    let mut seen = [0u32; 16];
-    let mut i: u8 = 0;
-    while i < count {
-        let a = senders[i as usize];
-        let key = a.key();
-        within = within & (a.within() & fresh(&seen, i, key));
-        seen[i as usize] = key;
-        i += 1;
-    }
-    within
 }
 
 // Whether none of the first k numbers is this one.
-fn fresh(seen: &[u32; 16], k: u8, key: u32) -> bool
-    requires { ⌜ k ≤ 16 ⌝ }
+fn fresh(seen: &[u32; Receiver::PLACES], k: u8, key: u32) -> bool
+    requires { ⌜ k ≤ sendersMost ⌝ }
     ensures { λ r. ⌜ r ≡ newKey (now (seen .entry)) k key ⌝ }
 {
     let mut new = true;
@@ -309,15 +322,4 @@ fn fresh(seen: &[u32; 16], k: u8, key: u32) -> bool
         j += 1;
     }
     new
-}
-
-// The place of the first that was found among one more.
-fn next_place(at: u8, i: u8, here: bool) -> u8
-    requires { ⌜ i < 16 ⌝ }
-    ensures { λ r. ⌜ r ≡ cond (ltb at i) at (cond here i (i + 1)) ⌝ }
-{
-    if at < i {
-        return at;
-    }
-    if here { i } else { i + 1 }
 }

@@ -12,8 +12,8 @@ read-head-requires c κs = search needs
 read-body-requires : tie.Need-read-body-requires
 read-body-requires c κs = search needs
 
-source-requires : tie.Need-source-requires
-source-requires c κs = search needs
+of-requires : tie.Need-of-requires
+of-requires c κs = search needs
 
 look-requires : tie.Need-look-requires
 look-requires c κs = search needs
@@ -27,7 +27,7 @@ returns c =
     let l = k .before in
     let head = l .before .before in
     let a = head .before .before .before .args in
-    signal-refused (a .t1) (now (a .packet)) _ _ _ _ (head .before .read-head .ensures) (head .read-body .ensures) (l .before .source .ensures) (l .look .ensures) _ (k .signal-number .ensures) (c .if1 .taken)
+    signal-refused (a .t1) (now (a .packet)) _ _ _ _ (head .before .read-head .ensures) (head .read-body .ensures) (l .before .of .ensures) (l .look .ensures) _ (k .signal-number .ensures) (c .if1 .taken)
 
 cast-s : tie.Need-cast-s
 cast-s c = search needs
@@ -41,7 +41,7 @@ element-copy-out-s c =
     let l = k .before in
     let head = l .before .before in
     let a = head .before .before .before .args in
-    signal-place (a .t1) (now (a .packet)) _ _ _ _ (head .before .read-head .ensures) (head .read-body .ensures) (l .before .source .ensures) (l .look .ensures) _ (k .signal-number .ensures) (c .if1 .left)
+    signal-place (a .t1) (now (a .packet)) _ _ _ _ (head .before .read-head .ensures) (head .read-body .ensures) (l .before .of .ensures) (l .look .ensures) _ (k .signal-number .ensures) (c .if1 .left)
 
 heard-by-requires : tie.Need-heard-by-requires
 heard-by-requires c κs = search needs
@@ -58,7 +58,7 @@ element-set-from-next c =
     let l = k .before in
     let head = l .before .before in
     let a = head .before .before .before .args in
-    signal-place (a .t1) (now (a .packet)) _ _ _ _ (head .before .read-head .ensures) (head .read-body .ensures) (l .before .source .ensures) (l .look .ensures) _ (k .signal-number .ensures) (c .before .before .if1 .left)
+    signal-place (a .t1) (now (a .packet)) _ _ _ _ (head .before .read-head .ensures) (head .read-body .ensures) (l .before .of .ensures) (l .look .ensures) _ (k .signal-number .ensures) (c .before .before .if1 .left)
 
 returns-2 : tie.Need-returns-2
 unfolding withSender
@@ -67,7 +67,7 @@ returns-2 c =
     let l = k .before in
     let head = l .before .before in
     let a = head .before .before .before .args in
-    rw (c .heard-by .ensures) (signal-noted (a .t1) (now (a .packet)) _ _ _ _ (head .before .read-head .ensures) (head .read-body .ensures) (l .before .source .ensures) (l .look .ensures) _ (k .signal-number .ensures) (c .before .before .if1 .left))
+    rw (c .heard-by .ensures) (signal-noted (a .t1) (now (a .packet)) _ _ _ _ (head .before .read-head .ensures) (head .read-body .ensures) (l .before .of .ensures) (l .look .ensures) _ (k .signal-number .ensures) (c .before .before .if1 .left))
 
 pub alive-spec : {M : Type 1} → statement M
 alive-spec =
@@ -75,7 +75,7 @@ alive-spec =
     (tie.spec
     read-head-requires
     read-body-requires
-    source-requires
+    of-requires
     look-requires
     signal-number-requires
     returns

@@ -5,22 +5,26 @@ use native.Mathlib.Numerals.{add-one}
 use native.Mathlib.Omega.{arith}
 use borrow.Author.Needs.{needs}
 use lib.ListN.{length, length-set}
+use Rattle.state.specs.State.{sendersMost}
 use Rattle.bench_nights.specs.Night.{nodesTo}
 use Rattle.bench_nights.proofs.nodes.Statement.{statement}
 use Rattle.bench_nights.proofs.nodes.Tie as tie
 
 abbrev Inv-loop : tie.InvT-loop
-Inv-loop nodes₀ i₀ nodes i = (i ≤ 16) × (length nodes ≡ 16) × (nodes ≡ nodesTo i)
+Inv-loop nodes₀ i₀ nodes i = (i ≤ sendersMost) × (length nodes ≡ sendersMost) × (nodes ≡ nodesTo i)
 
 abbrev μ-loop : tie.MeasureT-loop
-μ-loop nodes₀ i₀ nodes i = 16 - i
+μ-loop nodes₀ i₀ nodes i = sendersMost - i
 
 loop-holds : tie.Need-loop-holds Inv-loop μ-loop
 unfolding nodesTo
 loop-holds c = (search needs, search needs, refl)
 
-add-t9 : tie.Need-add-t9 Inv-loop μ-loop
-add-t9 c = omega arith
+cast-loop : tie.Need-cast-loop Inv-loop μ-loop
+cast-loop c = search needs
+
+add-number : tie.Need-add-number Inv-loop μ-loop
+add-number c = omega arith
 
 cast-nodes : tie.Need-cast-nodes Inv-loop μ-loop
 cast-nodes c = omega arith
@@ -46,7 +50,7 @@ loop-again c =
 returns : tie.Need-returns Inv-loop μ-loop
 returns c =
     let l = c .before .loop in
-    let e : l .i ≡ 16 = omega arith in
+    let e : l .i ≡ sendersMost = omega arith in
     rw e at (l .inv .2)
 
 pub nodes-spec : {M : Type 1} → statement M
@@ -56,7 +60,8 @@ nodes-spec =
     Inv-loop
     μ-loop
     loop-holds
-    add-t9
+    cast-loop
+    add-number
     cast-nodes
     mul-nodes
     array-set-from-nodes

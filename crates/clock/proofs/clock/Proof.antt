@@ -6,6 +6,7 @@ use borrow.Author.Needs.{needs}
 use borrow.Author.Tests.{not-true, not-false}
 use Rattle.rules.specs.calls.Clock.{drops, dies, agedSenders, mapWhere, notTicked}
 use Rattle.rules.specs.calls.ClockLaws.{withSenders, map-again, map-below, state-more, ticked-is, clock-nine, clock-back, clock-on}
+use Rattle.state.specs.State.{sendersMost}
 use Rattle.state.specs.LimitsLaws.{valid-count}
 use Rattle.state.specs.declared.Receiver.{Receiver}
 use Rattle.clock.proofs.clock.Statement.{statement}
@@ -13,7 +14,7 @@ use Rattle.clock.proofs.clock.Tie as tie
 
 abbrev Inv-loop : tie.InvT-loop
 Inv-loop now state₀ t count dropped₀ dead₀ i₀ state dropped dead i =
-    (i ≤ count) × (count ≤ 16) × (dropped ≡ mapWhere (drops t now) (state₀ .senders) i) × (dead ≡ mapWhere (dies now) (state₀ .senders) i)
+    (i ≤ count) × (count ≤ sendersMost) × (dropped ≡ mapWhere (drops t now) (state₀ .senders) i) × (dead ≡ mapWhere (dies now) (state₀ .senders) i)
     × (state ≡ withSenders state₀ (agedSenders t now (state₀ .senders) i))
 
 abbrev μ-loop : tie.MeasureT-loop

@@ -10,7 +10,7 @@ use Rattle.map.specs.Map.{holds}
 use Rattle.state.specs.LimitsLaws.{valid-count}
 use Rattle.state.specs.WithinLaws.{valid-sender}
 use Rattle.rules.specs.calls.QuestionLaws.{all-held, question-none, question-piece, question-nine}
-use Rattle.state.specs.State.{senderAt}
+use Rattle.state.specs.State.{sendersMost, senderAt}
 use borrow.Author.Needs.{needs}
 use Rattle.rules.specs.calls.QuestionLaws.{piecesOf, Held}
 use Rattle.question.proofs.question.Statement.{statement}
@@ -23,7 +23,7 @@ abbrev μ-loop : tie.MeasureT-loop
 μ-loop state count missing₀ i map pieces k₀ missing k = pieces - k
 
 abbrev Inv-senders : tie.InvT-senders
-Inv-senders state count missing₀ i₀ missing i = (i ≤ count) × (count ≤ 16) × ((j : ℕ) → j < i → senderAt state j .«open» ≡ false) × (missing ≡ NoneOpen)
+Inv-senders state count missing₀ i₀ missing i = (i ≤ count) × (count ≤ sendersMost) × ((j : ℕ) → j < i → senderAt state j .«open» ≡ false) × (missing ≡ NoneOpen)
 
 abbrev μ-senders : tie.MeasureT-senders
 μ-senders state count missing₀ i₀ missing i = count - i

@@ -19,7 +19,8 @@ use Rattle.state.specs.declared.Receiver.{Receiver}
 use Rattle.rules.specs.calls.Alive.{aliveLengthWrong, aliveHeadWithin, aliveWithin, signalRows, aliveRows, noted, notNoted, aliveAnswer}
 use Rattle.rules.specs.calls.First.{first}
 use Rattle.rules.specs.calls.FirstLaws.{first-here, first-none}
-use Rattle.state.specs.Limits.{sendersMost, valid}
+use Rattle.state.specs.Limits.{valid}
+use Rattle.state.specs.State.{sendersMost}
 use Rattle.state.specs.LimitsLaws.{valid-count}
 use Rattle.state.specs.Table.{source, found, lookAt}
 use Rattle.state.specs.TableLaws.{look-valid, look-place}
@@ -80,7 +81,7 @@ module _ (w : Receiver) (packet : List ℕ) (h : Head) (b : Body) (a : Address) 
     facts : Heeded (l .valid) (w .count) (l .at) packet h b
     facts = signal-facts (l .valid) (w .count) (l .at) packet h b none
 
-    -- The place is one of the table's 16.
+    -- The place is one of the table's.
     pub signal-place : l .at < sendersMost
     signal-place = omega (arith, facts .registered, valid-count w (sym (look-valid w a l el) ∙ facts .is-valid))
 

@@ -22,11 +22,11 @@ use Rattle.rules.specs.calls.Admit.{senderRows, admission, admitted, ref
 use Rattle.rules.specs.calls.AdmitLaws.{Admitted, admitted-facts, admission-yes, admission-number}
 use Rattle.rules.specs.calls.First.{first}
 use Rattle.rules.specs.calls.FirstLaws.{first-here, first-none, first-append, first-neither, numbered}
-use Rattle.state.specs.Limits.{sendersMost, valid}
+use Rattle.state.specs.Limits.{valid}
 use Rattle.state.specs.LimitsLaws.{valid-count}
 use Rattle.rules.specs.calls.Message.{area, lengthWrong, headWithin, packetRows, messageRows, messageNumber, storageAfter, whereBy, withSender, taken, refused, messageAnswer, messageStorage}
 use Rattle.state.specs.Table.{source, found, lookAt}
-use Rattle.state.specs.State.{senderAt}
+use Rattle.state.specs.State.{sendersMost, senderAt}
 use Rattle.state.specs.TableLaws.{look-valid, look-place}
 
 -- ---- the numbers before the sender's
@@ -140,7 +140,7 @@ module _ (w : Receiver) (storage packet : List ℕ) (h : Head) (a : Address) (l 
     pub pass-facts : Passed (l .valid) (w .count) (l .at) (length storage) packet h
     pass-facts = passed-facts (l .valid) (w .count) (l .at) (length storage) packet h zero-is
 
-    -- The place is one of the table's 16.
+    -- The place is one of the table's.
     pub pass-place : l .at < sendersMost
     pass-place =
         let v : valid w ≡ true = sym (look-valid w a l el) ∙ pass-facts .is-valid in

@@ -13,8 +13,8 @@ use Rattle.answers.specs.declared.Call.{Call}
 use Rattle.answers.specs.declared.Call.the-variants.{Done, Refused}
 use Rattle.answers.specs.declared.Started.{Started}
 use Rattle.answers.specs.declared.Setup.{Setup}
-use Rattle.state.specs.Limits.{isN1, isDropTime, sendersMost, given, addressesWithin}
-use Rattle.state.specs.State.{noSender, newSender, emptyReceiver}
+use Rattle.state.specs.Limits.{isN1, isDropTime, given, addressesWithin}
+use Rattle.state.specs.State.{sendersMost, noSender, newSender, emptyReceiver}
 
 -- "Tag 1 setup: mode (1 octet: 0 online, 1 test, any other meets 10)"
 unfoldable pub setupWithin : Setup → Bool
@@ -23,7 +23,7 @@ setupWithin q =
 
 -- The first k senders of the table; "places past the senders are written 0".
 unfoldable pub newSenders : List Address → ℕ → List Sender
-newSenders l zero = replicate 16 noSender
+newSenders l zero = replicate sendersMost noSender
 newSenders l (suc k) = set (newSenders l k) k (newSender (given l k))
 
 -- "At setup the clock is 0, nobody is heard, nothing is open and every last version and number is 0."

@@ -7,7 +7,8 @@ use borrow.Author.Tests.{leb-true}
 use Rattle.octets.specs.Split.{and-left, and-right}
 use Rattle.header.specs.Codes.{within}
 use Rattle.answers.specs.declared.Setup.{Setup}
-use Rattle.state.specs.Limits.{isN1, isDropTime, sendersMost, addressesWithin}
+use Rattle.state.specs.Limits.{isN1, isDropTime, addressesWithin}
+use Rattle.state.specs.State.{sendersMost}
 use Rattle.rules.specs.calls.Setup.{setupWithin}
 
 pub setup-count : (q : Setup) → setupWithin q ≡ true → q .count ≤ sendersMost

@@ -28,14 +28,14 @@ use Rattle.rules.specs.calls.Alive.{heardBy, aliveRows, aliveAnswer}
 use Rattle.rules.specs.calls.Clock.{drops, dies, aged, agedSenders, ticked, notTicked, clockAnswer}
 use Rattle.rules.specs.calls.ClockLaws.{aged-done, clock-back, clock-on}
 use Rattle.rules.specs.calls.First.{first}
-use Rattle.state.specs.Limits.{clockMost, sendersMost, isN1, isDropTime, isAddress, lastWithin, senderWithin, addressAt, sendersWithin, settingsOf, settingsWithin, valid, given, addressesWithin}
+use Rattle.state.specs.Limits.{clockMost, isN1, isDropTime, isAddress, lastWithin, senderWithin, addressAt, sendersWithin, settingsOf, settingsWithin, valid, given, addressesWithin}
 use Rattle.state.specs.LimitsLaws.{new-ext}
 use Rattle.state.specs.Table.{found}
 use Rattle.rules.specs.calls.Message.{headWithin, messageNumber, withSender, taken, refused, messageAnswer}
 use Rattle.rules.specs.calls.MessageLaws.{or-false, taken-facts}
 use Rattle.rules.specs.calls.Setup.{setupWithin, newSenders, setupState, setupAnswer}
 use Rattle.rules.specs.calls.SetupLaws.{setup-count}
-use Rattle.state.specs.State.{noSender, newSender, senderAt, emptyReceiver}
+use Rattle.state.specs.State.{sendersMost, noSender, newSender, senderAt, emptyReceiver}
 use Rattle.state.specs.WithinLaws.{message-later, Stays, senders-stay, set-place, written-place, valid-settings, valid-senders, valid-length}
 
 -- ---- setup

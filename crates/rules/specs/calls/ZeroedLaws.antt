@@ -31,7 +31,7 @@ use Rattle.rules.specs.calls.Message.{messageNumber, withSender, taken, 
 use Rattle.rules.specs.calls.MessageLaws.{taken-facts}
 use Rattle.state.specs.Limits.{given}
 use Rattle.rules.specs.calls.Setup.{newSenders, setupWithin, setupState, setupAnswer}
-use Rattle.state.specs.State.{noAddress, noSender, newSender, senderAt}
+use Rattle.state.specs.State.{sendersMost, noAddress, noSender, newSender, senderAt}
 use Rattle.rules.specs.calls.SeenLaws.{ChangesSeen, changes-zero, changes-aged, changes-heard, changes-after}
 
 -- In every place of a table what is not looked at is 0.
@@ -63,11 +63,11 @@ past-set l k i s h z j q = getD-set-other l i j s noSender (λ e. omega arith) �
 
 -- Setup.
 
-past-empty : ZeroPast (replicate 16 noSender) 0
+past-empty : ZeroPast (replicate sendersMost noSender) 0
 past-empty j h = ⊎-elim
-    (λ (q : j < 16). getD-replicate 16 j noSender noSender q)
-    (λ (q : 16 ≤ j). List·getD-eq-default (replicate 16 noSender) noSender q)
-    (lt-or-le j 16)
+    (λ (q : j < sendersMost). getD-replicate sendersMost j noSender noSender q)
+    (λ (q : sendersMost ≤ j). List·getD-eq-default (replicate sendersMost noSender) noSender q)
+    (lt-or-le j sendersMost)
 
 zero-senders : (l : List Address) (k : ℕ) → ZeroTable (newSenders l k)
 unfolding newSenders

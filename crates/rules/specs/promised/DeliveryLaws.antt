@@ -18,8 +18,8 @@ use Rattle.map.specs.MapLaws.{piece-some}
 use Rattle.state.specs.declared.Last.{Last}
 use Rattle.state.specs.declared.Receiver.{Receiver}
 use Rattle.state.specs.declared.Sender.{Sender}
-use Rattle.state.specs.Limits.{addressAt, valid, settingsOf, isN1, isDropTime, clockMost, sendersMost}
-use Rattle.state.specs.State.{senderAt}
+use Rattle.state.specs.Limits.{addressAt, valid, settingsOf, isN1, isDropTime, clockMost}
+use Rattle.state.specs.State.{sendersMost, senderAt}
 use Rattle.state.specs.WithinLaws.{valid-settings, valid-sender, message-facts}
 use Rattle.answers.specs.declared.Outcome.the-variants.{Delivered}
 use Rattle.rules.specs.promised.Accepted.{isAccepted, acceptedOf, acceptedIn}

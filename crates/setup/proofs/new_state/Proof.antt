@@ -6,6 +6,7 @@ use native.Mathlib.Numerals.{add-one}
 use borrow.Author.Needs.{needs}
 use lib.ListN.{length, length-set}
 use Rattle.octets.specs.Split.{mapped-length}
+use Rattle.state.specs.State.{sendersMost}
 use Rattle.rules.specs.calls.Setup.{newSenders}
 use Rattle.setup.specs.Settled.{settled, settled-few, seated, seated-none, seated-all}
 use Rattle.setup.proofs.new_state.Statement.{statement}
@@ -13,7 +14,7 @@ use Rattle.setup.proofs.new_state.Tie as tie
 
 abbrev Inv-loop : tie.InvT-loop
 Inv-loop within state₀ count addresses i₀ state i =
-    (i ≤ count) × (count ≤ 16) × (length (state .senders) ≡ 16) × (state ≡ seated state₀ addresses i)
+    (i ≤ count) × (count ≤ sendersMost) × (length (state .senders) ≡ sendersMost) × (state ≡ seated state₀ addresses i)
 
 abbrev μ-loop : tie.MeasureT-loop
 μ-loop within state₀ count addresses i₀ state i = count - i

@@ -4,12 +4,15 @@ use borrow.Author.Needs.{needs}
 use Rattle.setup.proofs.setup_within.Statement.{statement}
 use Rattle.setup.proofs.setup_within.Tie as tie
 
-addresses-within-requires : tie.Need-addresses-within-requires
-addresses-within-requires c κs = search needs
+cast-result : tie.Need-cast-result
+cast-result c = search needs
+
+all-within-requires : tie.Need-all-within-requires
+all-within-requires c κs = search needs
 
 returns : tie.Need-returns
 unfolding setupWithin
-returns c = rw (c .addresses-within .ensures)
+returns c = rw (c .all-within .ensures)
 
 pub setup-within-spec : {M : Type 1} → statement M
-setup-within-spec = tie.close (tie.spec addresses-within-requires returns)
+setup-within-spec = tie.close (tie.spec cast-result all-within-requires returns)

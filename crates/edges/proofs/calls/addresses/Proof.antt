@@ -1,14 +1,15 @@
 -- Each turn fills one place of the table. Assumes nothing.
 use borrow.Author.Needs.{needs}
 use Prim.Native.Nat.{_≤_, _-_}
+use Rattle.state.specs.State.{sendersMost}
 use Rattle.edges.proofs.calls.addresses.Statement.{statement}
 use Rattle.edges.proofs.calls.addresses.Tie as tie
 
 abbrev Inv-loop : tie.InvT-loop
-Inv-loop contents senders₀ i₀ senders i = i ≤ 16
+Inv-loop contents senders₀ i₀ senders i = i ≤ sendersMost
 
 abbrev μ-loop : tie.MeasureT-loop
-μ-loop contents senders₀ i₀ senders i = 16 - i
+μ-loop contents senders₀ i₀ senders i = sendersMost - i
 
 loop-holds : tie.Need-loop-holds Inv-loop μ-loop
 loop-holds c = search needs

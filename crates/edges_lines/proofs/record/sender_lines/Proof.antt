@@ -1,17 +1,21 @@
 -- Each turn passes one place of the table. Assumes nothing.
 use borrow.Author.Needs.{needs}
 use Prim.Native.Nat.{_≤_, _-_}
+use Rattle.state.specs.State.{sendersMost}
 use Rattle.edges_lines.proofs.record.sender_lines.Statement.{statement}
 use Rattle.edges_lines.proofs.record.sender_lines.Tie as tie
 
 abbrev Inv-loop : tie.InvT-loop
-Inv-loop w count i₀ i = i ≤ 16
+Inv-loop w count i₀ i = i ≤ sendersMost
 
 abbrev μ-loop : tie.MeasureT-loop
-μ-loop w count i₀ i = 16 - i
+μ-loop w count i₀ i = sendersMost - i
 
 loop-holds : tie.Need-loop-holds Inv-loop μ-loop
 loop-holds c = search needs
+
+cast-loop : tie.Need-cast-loop Inv-loop μ-loop
+cast-loop c = search needs
 
 cast-s : tie.Need-cast-s Inv-loop μ-loop
 cast-s c = search needs
@@ -44,6 +48,7 @@ sender-lines-spec =
     Inv-loop
     μ-loop
     loop-holds
+    cast-loop
     cast-s
     mul-s
     element-copy-out-s

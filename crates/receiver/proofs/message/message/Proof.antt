@@ -10,8 +10,8 @@ use Rattle.receiver.proofs.message.message.Tie as tie
 read-head-requires : tie.Need-read-head-requires
 read-head-requires c κs = search needs
 
-source-requires : tie.Need-source-requires
-source-requires c κs = search needs
+of-requires : tie.Need-of-requires
+of-requires c κs = search needs
 
 look-requires : tie.Need-look-requires
 look-requires c κs = search needs
@@ -26,7 +26,7 @@ returns c =
     let l = k .before in
     let head = l .before .before in
     let a = head .before .before .before .args in
-    pass-refused (a .t1) (now (a .storage)) (now (a .packet)) _ _ _ (head .read-head .ensures) (l .before .source .ensures) (l .look .ensures) _ (k .packet-number .ensures) (c .if1 .taken)
+    pass-refused (a .t1) (now (a .storage)) (now (a .packet)) _ _ _ (head .read-head .ensures) (l .before .of .ensures) (l .look .ensures) _ (k .packet-number .ensures) (c .if1 .taken)
 
 cast-s : tie.Need-cast-s
 cast-s c = search needs
@@ -40,7 +40,7 @@ element-copy-out-s c =
     let l = k .before in
     let head = l .before .before in
     let a = head .before .before .before .args in
-    pass-place (a .t1) (now (a .storage)) (now (a .packet)) _ _ _ (head .read-head .ensures) (l .before .source .ensures) (l .look .ensures) _ (k .packet-number .ensures) (c .if1 .left)
+    pass-place (a .t1) (now (a .storage)) (now (a .packet)) _ _ _ (head .read-head .ensures) (l .before .of .ensures) (l .look .ensures) _ (k .packet-number .ensures) (c .if1 .left)
 
 admit-requires : tie.Need-admit-requires
 admit-requires c κs = search needs
@@ -55,7 +55,7 @@ returns-2 c =
     let l = k .before in
     let head = l .before .before in
     let a = head .before .before .before .args in
-    pass-late (a .t1) (now (a .storage)) (now (a .packet)) _ _ _ (head .read-head .ensures) (l .before .source .ensures) (l .look .ensures) _ (k .packet-number .ensures) (c .before .before .before .before .if1 .left) _ (c .before .before .admit .ensures) _ (c .before .refused-number .ensures) (c .if2 .taken)
+    pass-late (a .t1) (now (a .storage)) (now (a .packet)) _ _ _ (head .read-head .ensures) (l .before .of .ensures) (l .look .ensures) _ (k .packet-number .ensures) (c .before .before .before .before .if1 .left) _ (c .before .before .admit .ensures) _ (c .before .refused-number .ensures) (c .if2 .taken)
 
 store-requires : tie.Need-store-requires
 store-requires c κs =
@@ -65,9 +65,9 @@ store-requires c κs =
     let a = head .before .before .before .args in
     let z = c .before .before .before .before .before .if1 .left in
     let none = c .before .if2 .left in (
-      pass-place (a .t1) (now (a .storage)) (now (a .packet)) _ _ _ (head .read-head .ensures) (l .before .source .ensures) (l .look .ensures) _ (k .packet-number .ensures) z,
-      pass-admitted (a .t1) (now (a .storage)) (now (a .packet)) _ _ _ (head .read-head .ensures) (l .before .source .ensures) (l .look .ensures) _ (k .packet-number .ensures) z _ (c .before .before .before .admit .ensures) _ (c .before .before .refused-number .ensures) none .cut-possible,
-      pass-facts (a .t1) (now (a .storage)) (now (a .packet)) _ _ _ (head .read-head .ensures) (l .before .source .ensures) (l .look .ensures) _ (k .packet-number .ensures) z .size,
+      pass-place (a .t1) (now (a .storage)) (now (a .packet)) _ _ _ (head .read-head .ensures) (l .before .of .ensures) (l .look .ensures) _ (k .packet-number .ensures) z,
+      pass-admitted (a .t1) (now (a .storage)) (now (a .packet)) _ _ _ (head .read-head .ensures) (l .before .of .ensures) (l .look .ensures) _ (k .packet-number .ensures) z _ (c .before .before .before .admit .ensures) _ (c .before .before .refused-number .ensures) none .cut-possible,
+      pass-facts (a .t1) (now (a .storage)) (now (a .packet)) _ _ _ (head .read-head .ensures) (l .before .of .ensures) (l .look .ensures) _ (k .packet-number .ensures) z .size,
     )
 
 where-to-requires : tie.Need-where-to-requires
@@ -76,7 +76,7 @@ where-to-requires c κs =
     let l = k .before in
     let head = l .before .before in
     let a = head .before .before .before .args in
-    pass-place (a .t1) (now (a .storage)) (now (a .packet)) _ _ _ (head .read-head .ensures) (l .before .source .ensures) (l .look .ensures) _ (k .packet-number .ensures) (c .before .before .before .before .before .before .before .before .before .before .if1 .left)
+    pass-place (a .t1) (now (a .storage)) (now (a .packet)) _ _ _ (head .read-head .ensures) (l .before .of .ensures) (l .look .ensures) _ (k .packet-number .ensures) (c .before .before .before .before .before .before .before .before .before .before .if1 .left)
 
 cast-next : tie.Need-cast-next
 cast-next c =
@@ -84,7 +84,7 @@ cast-next c =
     let l = k .before in
     let head = l .before .before in
     let a = head .before .before .before .args in
-    omega (arith, pass-place (a .t1) (now (a .storage)) (now (a .packet)) _ _ _ (head .read-head .ensures) (l .before .source .ensures) (l .look .ensures) _ (k .packet-number .ensures) (c .before .before .before .before .before .before .before .before .before .before .before .if1 .left))
+    omega (arith, pass-place (a .t1) (now (a .storage)) (now (a .packet)) _ _ _ (head .read-head .ensures) (l .before .of .ensures) (l .look .ensures) _ (k .packet-number .ensures) (c .before .before .before .before .before .before .before .before .before .before .before .if1 .left))
 
 mul-next : tie.Need-mul-next
 mul-next c =
@@ -92,7 +92,7 @@ mul-next c =
     let l = k .before in
     let head = l .before .before in
     let a = head .before .before .before .args in
-    omega (arith, pass-place (a .t1) (now (a .storage)) (now (a .packet)) _ _ _ (head .read-head .ensures) (l .before .source .ensures) (l .look .ensures) _ (k .packet-number .ensures) (c .before .before .before .before .before .before .before .before .before .before .before .if1 .left))
+    omega (arith, pass-place (a .t1) (now (a .storage)) (now (a .packet)) _ _ _ (head .read-head .ensures) (l .before .of .ensures) (l .look .ensures) _ (k .packet-number .ensures) (c .before .before .before .before .before .before .before .before .before .before .before .if1 .left))
 
 element-set-from-next : tie.Need-element-set-from-next
 element-set-from-next c =
@@ -100,7 +100,7 @@ element-set-from-next c =
     let l = k .before in
     let head = l .before .before in
     let a = head .before .before .before .args in
-    pass-place (a .t1) (now (a .storage)) (now (a .packet)) _ _ _ (head .read-head .ensures) (l .before .source .ensures) (l .look .ensures) _ (k .packet-number .ensures) (c .before .before .before .before .before .before .before .before .before .before .before .if1 .left)
+    pass-place (a .t1) (now (a .storage)) (now (a .packet)) _ _ _ (head .read-head .ensures) (l .before .of .ensures) (l .look .ensures) _ (k .packet-number .ensures) (c .before .before .before .before .before .before .before .before .before .before .before .if1 .left)
 
 same-length : tie.Need-same-length
 same-length c = search needs
@@ -115,14 +115,14 @@ returns-3 c =
     let z = c .before .before .before .before .before .before .before .before .before .before .before .if1 .left in
     let late = c .before .before .before .before .before .before .before in
     let none = late .if2 .left in
-    pass-taken (a .t1) (now (a .storage)) (now (a .packet)) _ _ _ (head .read-head .ensures) (l .before .source .ensures) (l .look .ensures) _ (k .packet-number .ensures) z _ (late .before .before .admit .ensures) _ (late .before .refused-number .ensures) none _ _ (c .where-to .ensures) (c .before .before .before .before .before .store .ensures)
+    pass-taken (a .t1) (now (a .storage)) (now (a .packet)) _ _ _ (head .read-head .ensures) (l .before .of .ensures) (l .look .ensures) _ (k .packet-number .ensures) z _ (late .before .before .admit .ensures) _ (late .before .refused-number .ensures) none _ _ (c .where-to .ensures) (c .before .before .before .before .before .store .ensures)
 
 pub message-spec : {M : Type 1} → statement M
 message-spec =
     tie.close
     (tie.spec
     read-head-requires
-    source-requires
+    of-requires
     look-requires
     packet-number-requires
     returns

@@ -11,17 +11,20 @@ use Rattle.state.specs.LimitsLaws.{senders-more, valid-few}
 use Rattle.state.specs.KeyLaws.{Seen, seen-none, seen-more, new-seen}
 use Rattle.state.specs.Table.{find}
 use Rattle.state.specs.TableLaws.{find-more, look-outside, passed-outside, passed-within}
-use Rattle.state.specs.State.{firstWhere}
+use Rattle.state.specs.State.{sendersMost, firstWhere}
 use Rattle.state.proofs.Receiver.look.Statement.{statement}
 use Rattle.state.proofs.Receiver.look.Tie as tie
 
 abbrev Inv-loop : tie.InvT-loop
 Inv-loop a self count clock valid₀ at₀ seen₀ i₀ valid at seen i =
-    (i ≤ count) × (count ≤ 16) × (length seen ≡ 16) × Seen seen (addressAt (self .senders)) i
+    (i ≤ count) × (count ≤ sendersMost) × (length seen ≡ sendersMost) × Seen seen (addressAt (self .senders)) i
     × (valid ≡ valid₀ && sendersWithin clock (self .senders) i) × (at ≡ find (self .senders) a i)
 
 abbrev μ-loop : tie.MeasureT-loop
 μ-loop a self count clock valid₀ at₀ seen₀ i₀ valid at seen i = count - i
+
+cast-if1 : tie.Need-cast-if1 Inv-loop μ-loop
+cast-if1 c = search needs
 
 returns : tie.Need-returns Inv-loop μ-loop
 returns c =
@@ -112,6 +115,7 @@ look-spec =
     (tie.spec
     Inv-loop
     μ-loop
+    cast-if1
     returns
     settings-within-requires
     loop-holds

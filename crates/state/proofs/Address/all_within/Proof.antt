@@ -6,14 +6,15 @@ use borrow.Author.Needs.{needs}
 use lib.ListN.{length, length-set}
 use Rattle.octets.specs.Split.{mapped-length}
 use Rattle.state.specs.Limits.{given, addressesWithin}
+use Rattle.state.specs.State.{sendersMost}
 use Rattle.state.specs.LimitsLaws.{addresses-more, addresses-few}
 use Rattle.state.specs.KeyLaws.{Seen, seen-none, seen-more, new-seen}
-use Rattle.state.proofs.addresses_within.Statement.{statement}
-use Rattle.state.proofs.addresses_within.Tie as tie
+use Rattle.state.proofs.Address.all_within.Statement.{statement}
+use Rattle.state.proofs.Address.all_within.Tie as tie
 
 abbrev Inv-loop : tie.InvT-loop
 Inv-loop count senders within₀ seen₀ i₀ within seen i =
-    (i ≤ count) × (count ≤ 16) × (length seen ≡ 16) × Seen seen (given senders) i × (within ≡ addressesWithin senders i)
+    (i ≤ count) × (count ≤ sendersMost) × (length seen ≡ sendersMost) × Seen seen (given senders) i × (within ≡ addressesWithin senders i)
 
 abbrev μ-loop : tie.MeasureT-loop
 μ-loop count senders within₀ seen₀ i₀ within seen i = count - i
@@ -21,7 +22,7 @@ abbrev μ-loop : tie.MeasureT-loop
 returns : tie.Need-returns Inv-loop μ-loop
 returns c =
     let a = c .before .args in
-    let all : length (a .t1) ≡ 16 = search (needs, mapped-length) in
+    let all : length (a .t1) ≡ sendersMost = search (needs, mapped-length) in
     sym (addresses-few (a .t1) (a .count) (omega (arith, c .if1 .taken)))
 
 loop-holds : tie.Need-loop-holds Inv-loop μ-loop
@@ -80,8 +81,8 @@ returns-2 c =
     let e : l .i ≡ a .count = omega arith in
     rw e at (l .inv .4)
 
-pub addresses-within-spec : {M : Type 1} → statement M
-addresses-within-spec =
+pub all-within-spec : {M : Type 1} → statement M
+all-within-spec =
     tie.close
     (tie.spec
     Inv-loop

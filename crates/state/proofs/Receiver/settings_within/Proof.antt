@@ -1,0 +1,16 @@
+-- The test is that of the definition. Assumes nothing.
+use mathlib.Core.Path.{refl}
+use borrow.Author.Needs.{needs}
+use Rattle.state.specs.Limits.{settingsOf}
+use Rattle.state.proofs.Receiver.settings_within.Statement.{statement}
+use Rattle.state.proofs.Receiver.settings_within.Tie as tie
+
+cast-result : tie.Need-cast-result
+cast-result c = search needs
+
+returns : tie.Need-returns
+unfolding settingsOf
+returns c = refl
+
+pub settings-within-spec : {M : Type 1} → statement M
+settings-within-spec = tie.close (tie.spec cast-result returns)
