@@ -11,7 +11,7 @@ use Rattle.answers.specs.declared.Outcome.the-variants.{Refused, Stored, Delive
 use Rattle.answers.specs.declared.Setup.{Setup}
 use Rattle.rules.specs.calls.Message.{messageAnswer, messageStorage}
 use Rattle.rules.specs.calls.Part.{partOf}
-use Rattle.rules.specs.pasts.Past.{World, Event, message, alive, clock, question, step}
+use Rattle.rules.specs.pasts.Past.{World, Event, message, alive, clock, aside, step}
 use Rattle.rules.specs.calls.Setup.{setupAnswer}
 
 -- ---- what it starts with
@@ -59,7 +59,7 @@ sumBy sum w (message packet) =
     sumWith sum a (partOf (a .place) packet (messageStorage (w .state) (w .storage) packet))
 sumBy sum w (alive packet) = sum
 sumBy sum w (clock now) = sum
-sumBy sum w question = sum
+sumBy sum w (aside call) = sum
 
 -- Over calls, "each given the state and storage that the one before left".
 unfoldable pub nightSum : ℕ → World → List Event → ℕ

@@ -20,7 +20,7 @@ use Rattle.rules.specs.calls.Alive.{aliveAnswer}
 use Rattle.rules.specs.calls.Clock.{clockAnswer}
 use Rattle.rules.specs.calls.Message.{area, messageAnswer, messageStorage}
 use Rattle.rules.specs.calls.Part.{partOf}
-use Rattle.rules.specs.pasts.Past.{World, Event, message, alive, clock, question, Said, Answers}
+use Rattle.rules.specs.pasts.Past.{World, Event, message, alive, clock, aside, question, Said, Answers}
 use Rattle.rules.specs.calls.Question.{questionAnswer}
 use Rattle.rules.specs.calls.Setup.{setupAnswer}
 
@@ -71,7 +71,7 @@ abbrev pub Meets : (w : World) (e : Event) → Said e → World → Type 0
 Meets w (message packet) r v = MessageMeets w packet (r .0) v × PartMeets (r .0 .place) packet (v .storage) (r .1)
 Meets w (alive packet) r v = AliveMeets w packet r v
 Meets w (clock now) r v = ClockMeets w now r v
-Meets w question r v = QuestionMeets w r v
+Meets w (aside question) r v = QuestionMeets w r v
 
 -- Calls from the world w on, in the order of time, "each given the state and storage that the one before left"; v is what the last one left.
 abbrev pub Course : (w : World) (es : List Event) → Answers es → World → Type 0

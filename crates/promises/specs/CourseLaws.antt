@@ -13,7 +13,7 @@ use Rattle.answers.specs.declared.Setup.{Setup}
 use Rattle.answers.specs.declared.Started.{Started}
 use Rattle.answers.specs.declared.Ticked.{Ticked}
 use Rattle.rules.specs.calls.Part.{partOf}
-use Rattle.rules.specs.pasts.Past.{World, Event, message, alive, clock, question, step, after, Said, said, Answers, answers, Start}
+use Rattle.rules.specs.pasts.Past.{World, Event, message, alive, clock, aside, question, step, after, Said, said, Answers, answers, Start}
 use Rattle.rules.specs.pasts.PastLaws.{Sound, past-sound}
 use Rattle.promises.specs.Course.{world, SetupMeets, MessageMeets, CutterMeets, Meets, Course, Leads, messagesOf}
 
@@ -37,14 +37,14 @@ one-call w (message packet) r v m = (
 )
 one-call w (alive packet) r v m = (m .answered, same-world (m .handed-on ∙ ap (λ (x : Noted). x .state) (m .answered)) (m .stays))
 one-call w (clock now) r v m = (m .answered, same-world (m .handed-on ∙ ap (λ (x : Ticked). x .state) (m .answered)) (m .stays))
-one-call w question r v m = (m .answered, m .stays)
+one-call w (aside question) r v m = (m .answered, m .stays)
 
 pub a-call : (w : World) (e : Event) → Meets w e (said w e) (step w e)
 unfolding said step
 a-call w (message packet) = (record { answered = refl; stored = refl; handed-on = refl }, record { handed-over = refl })
 a-call w (alive packet) = record { answered = refl; stays = refl; handed-on = refl }
 a-call w (clock now) = record { answered = refl; stays = refl; handed-on = refl }
-a-call w question = record { answered = refl; stays = refl }
+a-call w (aside question) = record { answered = refl; stays = refl }
 
 -- ---- a course
 

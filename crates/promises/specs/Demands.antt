@@ -36,7 +36,7 @@ use Rattle.rules.specs.calls.First.{Row, row}
 use Rattle.rules.specs.calls.FirstLaws as rows
 use Rattle.rules.specs.promised.Join.{Joined}
 use Rattle.rules.specs.calls.Message.{messageRows}
-use Rattle.rules.specs.pasts.Past.{World, Event, message, alive, clock, question, Said, Answers}
+use Rattle.rules.specs.pasts.Past.{World, Event, message, alive, clock, aside, question, Said, Answers}
 use Rattle.rules.specs.calls.Question.{questionRows}
 use Rattle.rules.specs.calls.Setup.{setupWithin}
 use Rattle.promises.specs.Course.{Meets, Course, SetupMeets, CutterMeets}
@@ -48,14 +48,14 @@ abbrev pub RefusedWith : (e : Event) → Said e → ℕ → Type 0
 RefusedWith (message packet) r k = r .0 .outcome ≡ outcome.Refused k
 RefusedWith (alive packet) r k = r .call ≡ call.Refused k
 RefusedWith (clock now) r k = r .call ≡ call.Refused k
-RefusedWith question r k = r ≡ missing.Refused k
+RefusedWith (aside question) r k = r ≡ missing.Refused k
 
 -- The numbers of a call, with their conditions, in the order in which they are tried.
 abbrev pub rowsOf : World → Event → List Row
 rowsOf w (message packet) = messageRows (w .state) (length (w .storage)) packet
 rowsOf w (alive packet) = aliveRows (w .state) packet
 rowsOf w (clock now) = clockRows (w .state) now
-rowsOf w question = questionRows (w .state)
+rowsOf w (aside question) = questionRows (w .state)
 
 -- "Bad input meets the numbered refusal that the papers fix": number k, exactly if its row is the first that applies. "A refusal changes neither
 -- the state nor one octet of lent memory": what that leaves.

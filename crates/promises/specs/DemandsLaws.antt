@@ -40,7 +40,7 @@ use Rattle.rules.specs.calls.First.{Row, row}
 use Rattle.rules.specs.calls.FirstLaws.{Given, above, given-above}
 use Rattle.rules.specs.promised.Join.{Joined}
 use Rattle.rules.specs.calls.Message.{area, messageRows, refused}
-use Rattle.rules.specs.pasts.Past.{World, Event, message, alive, clock, question, step, after, answerTo, partTo, Said, said, Answers}
+use Rattle.rules.specs.pasts.Past.{World, Event, message, alive, clock, aside, question, step, after, answerTo, partTo, Said, said, Answers}
 use Rattle.rules.specs.pasts.PastLaws.{Sound}
 use Rattle.rules.specs.promised.SafeLaws.{safe}
 use Rattle.rules.specs.calls.Setup.{setupWithin}
@@ -68,7 +68,7 @@ said-refuses w (clock now) = record {
   if-first = λ k g. unfold notTicked in ap (λ (x : Ticked). x .call) (clock-refuses (w .state) now k g);
   nothing = λ k e. unfold notTicked in rw (clock-refuses (w .state) now k (clock-given (w .state) now k e));
 }
-said-refuses w question = record { only-if = question-given (w .state); if-first = question-refuses (w .state); nothing = λ k e. refl }
+said-refuses w (aside question) = record { only-if = question-given (w .state); if-first = question-refuses (w .state); nothing = λ k e. refl }
 
 pub calls-refuse : CallsRefuse
 calls-refuse w e r v m =
@@ -137,7 +137,7 @@ never-given w s (message packet) = (
 )
 never-given w s (alive packet) = (not-given 9 (not (valid (w .state))) _ (rw (s .is-valid)) refl, not-behind 11 9 _ _ (λ z. omega (arith, z)) (not-above 11 _ refl))
 never-given w s (clock now) = (not-given 9 (not (valid (w .state))) _ (rw (s .is-valid)) refl, not-behind 11 9 _ _ (λ z. omega (arith, z)) (not-above 11 _ refl))
-never-given w s question = (not-given 9 (not (valid (w .state))) _ (rw (s .is-valid)) refl, not-behind 11 9 _ _ (λ z. omega (arith, z)) (not-above 11 _ refl))
+never-given w s (aside question) = (not-given 9 (not (valid (w .state))) _ (rw (s .is-valid)) refl, not-behind 11 9 _ _ (λ z. omega (arith, z)) (not-above 11 _ refl))
 
 pub never-nine : NeverNine
 never-nine q r w m es rs v c e a u meets =

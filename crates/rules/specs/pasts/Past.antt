@@ -22,12 +22,20 @@ pub record World : Type 0 where
   pub state : Receiver
   pub storage : List ℕ
 
+-- A call that leaves the state and storage as they are. No promise about a sender speaks of one.
+pub data Aside : Type 0 where
+  question : Aside
+
 -- A call, with any octets or any time.
 pub data Event : Type 0 where
   message : List ℕ → Event
   alive : List ℕ → Event
   clock : ℕ → Event
-  question : Event
+  aside : Aside → Event
+
+-- The world with another state.
+abbrev pub withState : World → Receiver → World
+withState w state = record { state = state; storage = w .storage }
 
 -- "the state and storage that the one before left"
 unfoldable pub step : World → Event → World
@@ -35,9 +43,9 @@ step w (message packet) = record {
   state = messageAnswer (w .state) (length (w .storage)) packet .state;
   storage = messageStorage (w .state) (w .storage) packet;
 }
-step w (alive packet) = record { state = aliveAnswer (w .state) packet .state; storage = w .storage }
-step w (clock now) = record { state = clockAnswer (w .state) now .state; storage = w .storage }
-step w question = w
+step w (alive packet) = withState w (aliveAnswer (w .state) packet .state)
+step w (clock now) = withState w (clockAnswer (w .state) now .state)
+step w (aside call) = w
 
 -- What calls leave, in the order of time.
 unfoldable pub after : World → List Event → World
@@ -58,13 +66,13 @@ abbrev pub Said : Event → Type 0
 Said (message packet) = Answer × List ℕ
 Said (alive packet) = Noted
 Said (clock now) = Ticked
-Said question = Missing
+Said (aside question) = Missing
 
 unfoldable pub said : (w : World) (e : Event) → Said e
 said w (message packet) = (answerTo w packet, partTo w packet)
 said w (alive packet) = aliveAnswer (w .state) packet
 said w (clock now) = clockAnswer (w .state) now
-said w question = questionAnswer (w .state)
+said w (aside question) = questionAnswer (w .state)
 
 -- What each of the calls says, in the order of time.
 abbrev pub Answers : List Event → Type 0

@@ -19,7 +19,7 @@ use Rattle.rules.specs.calls.ChangesLaws.{message-only, alive-only}
 use Rattle.rules.specs.calls.Clock.{clockRows, clockAnswer, ticked, notTicked}
 use Rattle.rules.specs.calls.First.{first}
 use Rattle.rules.specs.calls.Message.{area, messageNumber, messageStorage, storageAfter}
-use Rattle.rules.specs.pasts.Past.{World, Event, message, alive, clock, question, step, after, Start}
+use Rattle.rules.specs.pasts.Past.{World, Event, message, alive, clock, aside, step, after, Start}
 use Rattle.rules.specs.calls.Setup.{setupWithin, newSenders, setupState, setupAnswer}
 use Rattle.rules.specs.calls.SetupLaws.{setup-count}
 use Rattle.rules.specs.calls.ValidLaws.{setup-valid, message-valid, alive-valid, clock-valid}
@@ -74,21 +74,21 @@ unfolding step
 same-count w (message packet) = message-only (w .state) (length (w .storage)) packet .same-count
 same-count w (alive packet) = alive-only (w .state) packet .same-count
 same-count w (clock now) = clock-count (w .state) now
-same-count w question = refl
+same-count w (aside call) = refl
 
 step-valid : (w : World) (e : Event) → valid (w .state) ≡ true → valid (step w e .state) ≡ true
 unfolding step
 step-valid w (message packet) v = message-valid (w .state) (length (w .storage)) packet v
 step-valid w (alive packet) v = alive-valid (w .state) packet v
 step-valid w (clock now) v = clock-valid (w .state) now v
-step-valid w question v = v
+step-valid w (aside call) v = v
 
 step-room : (w : World) (e : Event) → length (step w e .storage) ≡ length (w .storage)
 unfolding step
 step-room w (message packet) = same-room (w .state) (w .storage) packet
 step-room w (alive packet) = refl
 step-room w (clock now) = refl
-step-room w question = refl
+step-room w (aside call) = refl
 
 pub step-sound : (w : World) (e : Event) → Sound w → Sound (step w e)
 step-sound w e s = record {

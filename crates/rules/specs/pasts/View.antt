@@ -17,7 +17,7 @@ use Rattle.rules.specs.calls.Admit.{senderRows, admitted, admission}
 use Rattle.rules.specs.calls.Clock.{aged}
 use Rattle.rules.specs.calls.First.{first}
 use Rattle.rules.specs.calls.Message.{area, lengthWrong, headWithin, storageAfter}
-use Rattle.rules.specs.pasts.Past.{World, Event, message, alive, clock, question}
+use Rattle.rules.specs.pasts.Past.{World, Event, message, alive, clock, aside}
 
 -- The settings, which no past changes.
 pub record Settings : Type 0 where
@@ -58,7 +58,7 @@ unfoldable pub sees : Address → Event → Seen
 sees a (message packet) = cond (isFrom a packet) (own packet) other
 sees a (alive packet) = other
 sees a (clock now) = time now
-sees a question = other
+sees a (aside call) = other
 
 -- ---- what it does
 

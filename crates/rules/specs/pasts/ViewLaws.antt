@@ -38,7 +38,7 @@ use Rattle.rules.specs.calls.ClockLaws.{clock-at}
 use Rattle.rules.specs.calls.First.{first}
 use Rattle.rules.specs.calls.Message.{area, lengthWrong, headWithin, messageRows, messageNumber, storageAfter, withSender, taken, refused, messageAnswer, messageStorage}
 use Rattle.rules.specs.calls.MessageLaws.{Passed, taken-facts}
-use Rattle.rules.specs.pasts.Past.{World, Event, message, alive, clock, question, step, after}
+use Rattle.rules.specs.pasts.Past.{World, Event, message, alive, clock, aside, step, after}
 use Rattle.rules.specs.pasts.PastLaws.{Sound, same-count, step-sound}
 use Rattle.rules.specs.calls.QuestionLaws.{first-of, first-holds}
 use Rattle.rules.specs.pasts.View.{Settings, settingsFrom, View, joining, view, inOrder, isFrom, sees, numberOf, outcomeView, put, nextView, tickView, stepView}
@@ -304,7 +304,7 @@ module _ (w : World) (sound : Sound w) (i : ℕ) (here : i < w .state .count) wh
       (true-or-false (isFrom (addressAt (w .state .senders) i) packet))
   view-step (alive packet) = view-alive packet
   view-step (clock now) = view-clock now
-  view-step question = unfold step in refl
+  view-step (aside call) = unfold step in refl
 
 -- ---- what no call changes: the settings, and who the senders are
 
@@ -320,7 +320,7 @@ same-settings w (clock now) =
     unfold clockAnswer in
     cond-case (λ (x : Ticked). settingsFrom (x .state) ≡ settingsFrom (w .state)) (eqb (first (clockRows (w .state) now)) 0) (ticked (w .state) now) (notTicked (w .state) (first (clockRows (w .state) now)))
     (λ _. unfold ticked in refl) (λ _. unfold notTicked in refl)
-same-settings w question = refl
+same-settings w (aside call) = refl
 
 address-after : (n1 now : ℕ) (s : Sender) (h : Head) → admitted n1 now s h .sender .address ≡ s .address
 unfolding admitted senderAfter
@@ -342,7 +342,7 @@ module _ (w : World) (sound : Sound w) (i : ℕ) (here : i < w .state .count) wh
   same-address (clock now) =
       clock-at (w .state) now (sound .is-valid) i here (λ t s. s .address ≡ addressAt (w .state .senders) i)
       (λ _. refl) (λ _. address-aged (w .state .t) now (senderAt (w .state) i))
-  same-address question = refl
+  same-address (aside call) = refl
 
 -- ---- a registered sender, through every call
 

@@ -14,7 +14,7 @@ use Rattle.answers.specs.declared.Answer.{Answer}
 use Rattle.answers.specs.declared.Outcome.the-variants.{Delivered}
 use Rattle.rules.specs.calls.Admit.{refusedNumber}
 use Rattle.rules.specs.promised.Join.{Joined}
-use Rattle.rules.specs.pasts.Past.{World, Event, message, alive, clock, question, after, answerTo, partTo, Said, Answers, answers}
+use Rattle.rules.specs.pasts.Past.{World, Event, message, alive, clock, aside, after, answerTo, partTo, Said, Answers, answers}
 
 -- Accepted: no number is given.
 abbrev pub isAccepted : Answer → Bool
@@ -34,7 +34,7 @@ abbrev pub acceptedOf : Address → List (List ℕ) → (e : Event) → Said e �
 acceptedOf a so-far (message packet) r = acceptedWith a so-far packet (r .0)
 acceptedOf a so-far (alive packet) r = so-far
 acceptedOf a so-far (clock now) r = so-far
-acceptedOf a so-far question r = so-far
+acceptedOf a so-far (aside call) r = so-far
 
 -- and after calls in the order of time.
 unfoldable pub acceptedIn : Address → List (List ℕ) → (es : List Event) → Answers es → List (List ℕ)

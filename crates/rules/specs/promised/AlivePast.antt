@@ -11,7 +11,7 @@ use Rattle.state.specs.declared.Address.{Address}
 use Rattle.state.specs.Limits.{sameAddress, clockMost}
 use Rattle.state.specs.Table.{source}
 use Rattle.rules.specs.calls.Alive.{aliveLengthWrong, aliveHeadWithin, aliveWithin}
-use Rattle.rules.specs.pasts.Past.{Event, message, alive, clock, question}
+use Rattle.rules.specs.pasts.Past.{Event, message, alive, clock, aside}
 
 -- ---- time
 
@@ -24,7 +24,7 @@ unfoldable pub timeBy : ℕ → Event → ℕ
 timeBy t (message packet) = t
 timeBy t (alive packet) = t
 timeBy t (clock now) = cond (clockRefused t now) t now
-timeBy t question = t
+timeBy t (aside call) = t
 
 -- The time after calls that began at the time t.
 abbrev pub timeAfter : ℕ → List Event → ℕ
@@ -36,7 +36,7 @@ clockTimes t [] = []
 clockTimes t (message packet ∷ es) = clockTimes t es
 clockTimes t (alive packet ∷ es) = clockTimes t es
 clockTimes t (clock now ∷ es) = cond (clockRefused t now) (clockTimes t es) (now ∷ clockTimes now es)
-clockTimes t (question ∷ es) = clockTimes t es
+clockTimes t (aside call ∷ es) = clockTimes t es
 
 -- ---- signals
 

@@ -33,7 +33,7 @@ use Rattle.rules.specs.calls.Clock.{dies, aged}
 use Rattle.rules.specs.calls.ClockLaws.{clock-at}
 use Rattle.rules.specs.calls.First.{first}
 use Rattle.rules.specs.calls.Message.{withSender}
-use Rattle.rules.specs.pasts.Past.{World, Event, message, alive, clock, question, step, after, Start}
+use Rattle.rules.specs.pasts.Past.{World, Event, message, alive, clock, aside, step, after, Start}
 use Rattle.rules.specs.pasts.PastLaws.{Sound, start-sound, start-clock, start-sender, same-count, step-sound}
 use Rattle.rules.specs.pasts.ViewLaws.{found-own, found-other, set-kept, message-kept, same-address}
 
@@ -55,7 +55,7 @@ unfoldable lifeBy : Address → Life → Event → Life
 lifeBy a l (message packet) = l
 lifeBy a l (alive packet) = cond (isSignal a packet) (record { sender = heardBy (l .now) (l .sender) (bodyOf packet); now = l .now }) l
 lifeBy a l (clock now) = cond (clockRefused (l .now) now) l (record { sender = aged 0 now (l .sender); now = now })
-lifeBy a l question = l
+lifeBy a l (aside call) = l
 
 abbrev lifeAfter : Address → Life → List Event → Life
 lifeAfter a = foldl (lifeBy a)
@@ -162,7 +162,7 @@ module _ (w : World) (sound : Sound w) (i : ℕ) (here : i < w .state .count) wh
       (λ (e : isSignal a packet ≡ false). unfold life step in rw (e, other-kept packet e, alive-only (w .state) packet .same-clock))
       (true-or-false (isSignal a packet))
   life-step (clock now) = life-clock now
-  life-step question = unfold step in refl
+  life-step (aside call) = unfold step in refl
 
 life-after : (w : World) → Sound w → (i : ℕ) → i < w .state .count → (es : List Event)
     → life (after w es) i ≡ lifeAfter (addressAt (w .state .senders) i) (life w i) es
@@ -184,7 +184,7 @@ unfoldable isOwn : Address → Event → Bool
 isOwn a (message packet) = false
 isOwn a (alive packet) = isSignal a packet
 isOwn a (clock now) = false
-isOwn a question = false
+isOwn a (aside call) = false
 
 -- "Modes 2 and 3: dead from then on"
 heard-mode : (now : ℕ) (s : Sender) (b : Body) → heardBy now s b .alive ≡ true → b .mode ≡ 1
@@ -222,7 +222,7 @@ module _ (a : Address) where
   now-by l (message packet) = refl
   now-by l (alive packet) = cond-case (λ (x : Life). x .now ≡ l .now) (isSignal a packet) _ _ (λ _. refl) (λ _. refl)
   now-by l (clock now) = ⊎-elim (λ (e : clockRefused (l .now) now ≡ true). rw e) (λ (e : clockRefused (l .now) now ≡ false). rw e) (true-or-false (clockRefused (l .now) now))
-  now-by l question = refl
+  now-by l (aside call) = refl
 
   now-after : (l : Life) (es : List Event) → lifeAfter a l es .now ≡ timeAfter (l .now) es
   now-after l [] = refl
@@ -294,7 +294,7 @@ module _ (a : Address) where
       (λ (e : clockRefused (l .now) now ≡ true). rw e (quiet-on l (clock now) es (rw e) f))
       (λ (e : clockRefused (l .now) now ≡ false). rw e (tick-on l now es e f))
       (true-or-false (clockRefused (l .now) now))
-  lasts-on l question es f = quiet-on l question es refl f
+  lasts-on l (aside call) es f = quiet-on l (aside call) es refl f
 
   lasts-to : (l : Life) (es : List Event) → Lasts l es → lifeAfter a l es .sender .alive ≡ true
   lasts-to l [] f = f .is-alive
@@ -342,7 +342,7 @@ module _ (a : Address) where
         (λ (e : clockRefused (l .now) now ≡ true). quiet-back l (clock now) es (rw e) refl (rw e at f))
         (λ (e : clockRefused (l .now) now ≡ false). tick-back l now es e (rw e at f))
         (true-or-false (clockRefused (l .now) now)))
-    lasts-back question es f = inl (quiet-back l question es refl refl f)
+    lasts-back (aside call) es f = inl (quiet-back l (aside call) es refl refl f)
 
   -- Alive after es, it was so before and stayed so, or is so by the calls up to there.
   found-by : (past : List Event) (l : Life) → l .now ≡ timeAfter 0 past → (es : List Event) → lifeAfter a l es .sender .alive ≡ true

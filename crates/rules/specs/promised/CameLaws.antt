@@ -16,7 +16,7 @@ use Rattle.header.specs.Places.{headerSize}
 use Rattle.cut.specs.Cutter.{cutFor}
 use Rattle.cut.specs.Pieces.{piece}
 use Rattle.rules.specs.promised.Delivery.{Sent, count, PieceOf, Brings, Came, OneApplies, is-last, is-one, came-before, all-came}
-use Rattle.rules.specs.pasts.Past.{Event, message, alive, clock, question}
+use Rattle.rules.specs.pasts.Past.{Event, message, alive, clock, aside}
 use Rattle.rules.specs.pasts.View.{isFrom}
 
 -- ---- decisions that compute
@@ -81,7 +81,7 @@ module _ (m : Sent) where
   dec-brings c (message p) = dec-piece c p
   dec-brings c (alive p) = no (λ z. z)
   dec-brings c (clock now) = no (λ z. z)
-  dec-brings c question = no (λ z. z)
+  dec-brings c (aside call) = no (λ z. z)
 
   unfoldable pub dec-came : (c : ℕ) (es : List Event) → Dec (Came m c es)
   dec-came c [] = no (λ z. z)

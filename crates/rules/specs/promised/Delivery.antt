@@ -27,7 +27,7 @@ use Rattle.answers.specs.declared.Outcome.{Outcome}
 use Rattle.answers.specs.declared.Outcome.the-variants.{Refused, Stored, Delivered}
 use Rattle.rules.specs.promised.Accepted.{isAccepted}
 use Rattle.rules.specs.calls.Clock.{clockAnswer}
-use Rattle.rules.specs.pasts.Past.{World, Event, message, alive, clock, question, step, answerTo}
+use Rattle.rules.specs.pasts.Past.{World, Event, message, alive, clock, aside, step, answerTo}
 use Rattle.rules.specs.pasts.View.{isFrom}
 
 -- ---- the message and its pieces
@@ -66,7 +66,7 @@ abbrev pub Brings : Sent → ℕ → Event → Type 0
 Brings m c (message packet) = PieceOf m c packet
 Brings m c (alive packet) = ⊥
 Brings m c (clock now) = ⊥
-Brings m c question = ⊥
+Brings m c (aside call) = ⊥
 
 -- came with one of these.
 abbrev pub Came : Sent → ℕ → List Event → Type 0
@@ -111,7 +111,7 @@ abbrev pub Allowed : (World → List ℕ → Type 0) → Sent → ℕ → World 
 Allowed own m i w (message packet) = isFrom (m .address) packet ≡ true → own w packet
 Allowed own m i w (alive packet) = Unit {0}
 Allowed own m i w (clock now) = KeptBy m i (w .state) now
-Allowed own m i w question = Unit {0}
+Allowed own m i w (aside call) = Unit {0}
 
 -- Calls that may come, in the order of time.
 abbrev pub Between : (World → List ℕ → Type 0) → Sent → ℕ → World → List Event → Type 0

@@ -29,7 +29,7 @@ use Rattle.rules.specs.calls.Clock.{drops}
 use Rattle.rules.specs.calls.ClockLaws.{not-reported}
 use Rattle.rules.specs.promised.Delivery.{Sent, count, Numbered, PieceOf, Brings, Came, isOpen, verdictFor, KeptBy, Allowed, Between, OnlyPieces, ElseRefused, May, Arrives, Once}
 use Rattle.rules.specs.promised.Join.{Kin, kinOf, Joined}
-use Rattle.rules.specs.pasts.Past.{World, Event, message, alive, clock, question, step, after, answerTo, partTo, said, answers, Start}
+use Rattle.rules.specs.pasts.Past.{World, Event, message, alive, clock, aside, step, after, answerTo, partTo, said, answers, Start}
 use Rattle.rules.specs.pasts.PastLaws.{Sound, start-sound, past-sound, after-count}
 use Rattle.rules.specs.promised.PhaseLaws.{Phase, phase-same, phase-start, phase-next, phase-last, phase-more, phase-held, phase-once, phase-clock}
 use Rattle.rules.specs.promised.PieceLaws.{Cuttable, least, piece-kin, piece-number, piece-octets}
@@ -130,7 +130,7 @@ module _ (g : Settings) (m : Sent) (k : Cuttable m) (admits : eqb (m .mode) 1 &&
     way-step (alive p) f = on-step (λ d. C d ⊎ ⊥) (alive p) tt (same-pieces (λ d. ⊥) (λ d x. x) (o .phase))
     way-step (clock now) f = on-step (λ d. C d ⊎ ⊥) (clock now) tt
         (phase-same m last C (λ d. C d ⊎ ⊥) (tickView g v now .sender) (λ d x. inl x) (λ d x. ⊎-elim (λ y. y) (λ (y : ⊥). absurd y) x) (clock-call now f))
-    way-step question f = on-step (λ d. C d ⊎ ⊥) question tt (same-pieces (λ d. ⊥) (λ d x. x) (o .phase))
+    way-step (aside call) f = on-step (λ d. C d ⊎ ⊥) (aside call) tt (same-pieces (λ d. ⊥) (λ d x. x) (o .phase))
 
   -- ---- the calls since the past
 
@@ -225,7 +225,7 @@ allowed-wider : (m : Sent) (i : ℕ) (w : World) (e : Event) → Allowed (OnlyPi
 allowed-wider m i w (message packet) f = λ mine. inl (f mine)
 allowed-wider m i w (alive packet) f = f
 allowed-wider m i w (clock now) f = f
-allowed-wider m i w question f = f
+allowed-wider m i w (aside call) f = f
 
 -- Where nothing else of the sender comes, nothing else of it is taken.
 between-wider : (m : Sent) (i : ℕ) (w : World) (es : List Event) → Between (OnlyPieces m) m i w es → Between (ElseRefused m) m i w es

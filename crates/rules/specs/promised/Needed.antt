@@ -25,7 +25,7 @@ use Rattle.answers.specs.declared.Setup.{Setup}
 use Rattle.rules.specs.promised.CutPiecesLaws.{sentBy}
 use Rattle.rules.specs.promised.Delivery.{Sent, PieceOf, verdictFor, May, Between, OnlyPieces, Arrives, Once}
 use Rattle.rules.specs.calls.Message.{area}
-use Rattle.rules.specs.pasts.Past.{World, Event, message, clock, question, after, answerTo, partTo, Start}
+use Rattle.rules.specs.pasts.Past.{World, Event, message, clock, aside, question, after, answerTo, partTo, Start}
 use Rattle.rules.specs.calls.Setup.{setupAnswer}
 use Rattle.rules.specs.pasts.View.{isFrom}
 
@@ -184,7 +184,7 @@ example = record {
   octets = long;
   u = 256;
   past = comes 99 short 1 ∷ clock 1000 ∷ [];
-  since = comes 100 long 2 ∷ comes 100 long 2 ∷ message (pdu (headed 8 5 100 0) long 256 1) ∷ clock 15999 ∷ question ∷ [];
+  since = comes 100 long 2 ∷ comes 100 long 2 ∷ message (pdu (headed 8 5 100 0) long 256 1) ∷ clock 15999 ∷ aside question ∷ [];
   piece = 1;
   promised = 1;
   answered = 1;

@@ -34,7 +34,7 @@ use Rattle.rules.specs.promised.Delivery.{Sent, PieceOf, isOpen, May, Al
 use Rattle.rules.specs.calls.First.{first}
 use Rattle.rules.specs.calls.Message.{headWithin, messageRows, storageAfter, withSender, taken, refused, messageAnswer, messageStorage}
 use Rattle.rules.specs.calls.Part.{storedPart}
-use Rattle.rules.specs.pasts.Past.{World, Event, message, alive, clock, question, step, after, partTo, Start}
+use Rattle.rules.specs.pasts.Past.{World, Event, message, alive, clock, aside, step, after, partTo, Start}
 use Rattle.rules.specs.calls.Setup.{setupWithin, newSenders, setupState, setupAnswer}
 use Rattle.rules.specs.pasts.View.{inOrder, isFrom}
 use Rattle.rules.specs.promised.Needed.{Example, sent, packet, setup, start, before, sender, verdict, finds, outcome, Promise, Condition, registered, length-within, unit-within, version-not-0, unheard, no-repeat, none-larger, admits, only-pieces, kept, NoneAsked, Holds, Met, Needed, example, without}
@@ -99,13 +99,13 @@ module _ (P : List ℕ → Type 0) (dec : (p : List ℕ) → Dec (P p)) where
       (Dec·and (dec q) (dec-each es))
   dec-each (alive q ∷ es) = each-later (alive q) es (λ p e. let z : _≡_ {A = ℕ} 0 1 = cc in omega arith) (dec-each es)
   dec-each (clock now ∷ es) = each-later (clock now) es (λ p e. let z : _≡_ {A = ℕ} 0 1 = cc in omega arith) (dec-each es)
-  dec-each (question ∷ es) = each-later question es (λ p e. let z : _≡_ {A = ℕ} 0 1 = cc in omega arith) (dec-each es)
+  dec-each (aside call ∷ es) = each-later (aside call) es (λ p e. let z : _≡_ {A = ℕ} 0 1 = cc in omega arith) (dec-each es)
 
 dec-allowed : (m : Sent) (w : World) (e : Event) → Dec (Allowed NoneAsked m 0 w e)
 dec-allowed m w (message p) = yes (λ _. tt)
 dec-allowed m w (alive p) = yes tt
 dec-allowed m w (clock now) = dec-if (dec-true (isOpen m (senderAt (w .state) 0))) (dec-eq (bit 0 (clockAnswer (w .state) now .dropped)) 0)
-dec-allowed m w question = yes tt
+dec-allowed m w (aside call) = yes tt
 
 dec-kept : (m : Sent) (w : World) (es : List Event) → Dec (Between NoneAsked m 0 w es)
 dec-kept m w [] = yes tt
@@ -278,7 +278,7 @@ module _ (e : Example) where
       go w (message p ∷ es) f k = (f p (List·Memᴰ·head refl), go (step w (message p)) es (λ q i. f q (List·Memᴰ·tail i)) (k .1))
       go w (alive p ∷ es) f k = (tt, go (step w (alive p)) es (λ q i. f q (List·Memᴰ·tail i)) (k .1))
       go w (clock now ∷ es) f k = (k .0, go (step w (clock now)) es (λ q i. f q (List·Memᴰ·tail i)) (k .1))
-      go w (question ∷ es) f k = (tt, go (step w question) es (λ q i. f q (List·Memᴰ·tail i)) (k .1))
+      go w (aside call ∷ es) f k = (tt, go (step w (aside call)) es (λ q i. f q (List·Memᴰ·tail i)) (k .1))
 
   pub conditions-may : ((y : Condition) → Holds y e) → May (sent e) 0 (e .past) (before e)
   conditions-may h = record {

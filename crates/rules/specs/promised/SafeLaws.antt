@@ -36,7 +36,7 @@ use Rattle.rules.specs.promised.JoinLaws.{Inv, next-inv, tick-inv, partV
 use Rattle.rules.specs.calls.Message.{area, lengthWrong, headWithin, messageNumber, messageAnswer, messageStorage, storageAfter, liesAt, taken, refused}
 use Rattle.rules.specs.calls.MessageLaws.{Passed, taken-facts, or-false}
 use Rattle.rules.specs.calls.Part.{partOf, storedPart}
-use Rattle.rules.specs.pasts.Past.{World, Event, message, alive, clock, question, step, after, answerTo, partTo, said, answers, Start}
+use Rattle.rules.specs.pasts.Past.{World, Event, message, alive, clock, aside, step, after, answerTo, partTo, said, answers, Start}
 use Rattle.rules.specs.pasts.PastLaws.{Sound, length-after, start-sound, start-sender, past-sound, after-count}
 use Rattle.rules.specs.calls.QuestionLaws.{first-holds}
 use Rattle.rules.specs.pasts.View.{Settings, settingsFrom, view, inOrder, isFrom, sees, numberOf, stepView}
@@ -214,7 +214,7 @@ abbrev pub IfTaken : Address → (List ℕ → Type 0) → World → Event → T
 IfTaken a P w (message p) = isFrom a p ≡ true → isAccepted (answerTo w p) ≡ true → P p
 IfTaken a P w (alive p) = Unit {0}
 IfTaken a P w (clock now) = Unit {0}
-IfTaken a P w question = Unit {0}
+IfTaken a P w (aside call) = Unit {0}
 
 module _ (g : Settings) (a : Address) (i : ℕ) where
   pub inv-step : (w : World) → Registered g a i w → (packets : List (List ℕ)) → Inv packets (view w i) → (e : Event) → Inv (acceptedOf a packets e (said w e)) (view (step w e) i)
@@ -227,7 +227,7 @@ module _ (g : Settings) (a : Address) (i : ℕ) where
       (true-or-false (isFrom a p)))
   inv-step w r packets inv (alive p) = subst (Inv packets) (sym (registered-view g a i w r (alive p))) inv
   inv-step w r packets inv (clock now) = subst (Inv packets) (sym (registered-view g a i w r (clock now))) (tick-inv packets g (view w i) now inv)
-  inv-step w r packets inv question = subst (Inv packets) (sym (registered-view g a i w r question)) inv
+  inv-step w r packets inv (aside call) = subst (Inv packets) (sym (registered-view g a i w r (aside call))) inv
 
   pub inv-after : (w : World) → Registered g a i w → (packets : List (List ℕ)) → Inv packets (view w i) → (es : List Event)
       → Inv (acceptedIn a packets es (answers w es)) (view (after w es) i)
@@ -242,7 +242,7 @@ module _ (g : Settings) (a : Address) (i : ℕ) where
   accepted-step P w r packets old (message p) f = accepted-each g a i w r packets p P old f
   accepted-step P w r packets old (alive p) f = old
   accepted-step P w r packets old (clock now) f = old
-  accepted-step P w r packets old question f = old
+  accepted-step P w r packets old (aside call) f = old
 
   -- and after a past, if it holds of every packet from the address.
   pub accepted-all : (P : List ℕ → Type 0) (w : World) → Registered g a i w → (packets : List (List ℕ)) → ((q : List ℕ) → List·Memᴰ q packets → P q)
@@ -257,7 +257,7 @@ module _ (g : Settings) (a : Address) (i : ℕ) where
       here (message p) f = λ mine yes. f p (List·Memᴰ·head refl) mine
       here (alive p) f = tt
       here (clock now) f = tt
-      here question f = tt
+      here (aside call) f = tt
 
   -- What is delivered is a join of the packets accepted since.
   module _ (w : World) (r : Registered g a i w) (packets : List (List ℕ)) (inv : Inv packets (view w i)) (p : List ℕ) (mine : isFrom a p ≡ true) (vd : Verdict)
