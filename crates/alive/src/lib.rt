@@ -3,7 +3,8 @@
 //
 // It is total: any state and any octets may come, and each meets its number.
 ghost use mathlib.Core.Path.{_≡_};
-ghost use Rattle.rules.specs.calls.Alive.{aliveHeadWithin, aliveWithin, signalRows, heardAs, heardBy, aliveAnswer};
+ghost use Rattle.rules.specs.calls.Alive.{aliveHeadWithin, aliveWithin, signalRows, heardBy, aliveAnswer};
+ghost use Rattle.state.specs.State.{heardAs};
 ghost use Rattle.rules.specs.calls.First.{first};
 use answers::Call;
 use answers::Noted;

@@ -5,17 +5,16 @@ use mathlib.Core.Path.{_≡_, refl}
 use mathlib.Core.Bool.{Bool, true, false, cond}
 use mathlib.Core.List.{List}
 use native.Mathlib.Omega.{arith}
-use lib.Dec.{eqb}
 use lib.ListN.{replicate}
 use Rattle.answers.specs.declared.Setup.{Setup}
-use Rattle.rules.specs.calls.Setup.{newSenders, setupState}
+use Rattle.rules.specs.calls.Setup.{newSenders, settingsBy, setupState}
 use Rattle.state.specs.declared.Address.{Address}
 use Rattle.state.specs.declared.Receiver.{Receiver}
-use Rattle.state.specs.State.{sendersMost, noSender, emptyReceiver}
+use Rattle.state.specs.State.{sendersMost, noSender, stateOf, emptyReceiver, withSenders}
 
 unfoldable pub settled : Setup → Bool → Receiver
 settled q within =
-    cond within (record { test = eqb (q .mode) 1; n1 = q .n1; t = q .t; clock = 0; count = q .count; senders = replicate sendersMost noSender }) emptyReceiver
+    cond within (stateOf (settingsBy q) 0 (replicate sendersMost noSender)) emptyReceiver
 
 pub settled-few : (q : Setup) (within : Bool) → (within ≡ true → q .count ≤ sendersMost) → settled q within .count ≤ sendersMost
 unfolding settled
@@ -24,7 +23,7 @@ settled-few q false few = omega arith
 
 -- The first k senders are written in.
 abbrev pub seated : Receiver → List Address → ℕ → Receiver
-seated w l k = record { test = w .test; n1 = w .n1; t = w .t; clock = w .clock; count = w .count; senders = newSenders l k }
+seated w l k = withSenders w (newSenders l k)
 
 pub seated-none : (q : Setup) (within : Bool) → settled q within ≡ seated (settled q within) (q .senders) 0
 unfolding settled newSenders

@@ -1,4 +1,4 @@
--- The state at its start: what is not there is 0.
+-- The state at its start: what is not there is 0. And a state, and a sender's record, with a part of it changed.
 use Prim.Native.Nat.{ℕ, zero, suc}
 use mathlib.Core.Bool.{Bool, false, cond}
 use mathlib.Core.List.{List}
@@ -45,6 +45,34 @@ unfoldable pub firstWhere : (Sender → Bool) → List Sender → ℕ → ℕ
 firstWhere f l zero = 0
 firstWhere f l (suc k) = cond (ltb (firstWhere f l k) k) (firstWhere f l k) (cond (f (getD l k noSender)) k (suc k))
 
+-- What setup gives, and no other call changes.
+pub record Settings : Type 0 where
+  pub test : Bool
+  pub n1 : ℕ
+  pub t : ℕ
+  pub count : ℕ
+
+abbrev pub settingsFrom : Receiver → Settings
+settingsFrom w = record { test = w .test; n1 = w .n1; t = w .t; count = w .count }
+
+-- The rest of a state: the time and the senders.
+abbrev pub stateOf : Settings → ℕ → List Sender → Receiver
+stateOf g clock senders = record { test = g .test; n1 = g .n1; t = g .t; clock = clock; count = g .count; senders = senders }
+
 -- "An empty state, with no senders, is what a refused setup returns (online, N1 1, T 1)"
 abbrev pub emptyReceiver : Receiver
-emptyReceiver = record { test = false; n1 = 1; t = 1; clock = 0; count = 0; senders = replicate sendersMost noSender }
+emptyReceiver = stateOf (record { test = false; n1 = 1; t = 1; count = 0 }) 0 (replicate sendersMost noSender)
+
+-- ---- with a part changed
+
+-- A state with other senders.
+abbrev pub withSenders : Receiver → List Sender → Receiver
+withSenders w l = stateOf (settingsFrom w) (w .clock) l
+
+-- A sender's record with another last number and message, open or not,
+abbrev pub joinedAs : Sender → Last → Bool → Message → Sender
+joinedAs s last is message = record { address = s .address; last = last; «open» = is; message = message; alive = s .alive; heard = s .heard }
+
+-- and one that was heard at another time, alive or not.
+abbrev pub heardAs : Sender → Bool → Heard → Sender
+heardAs s alive heard = record { address = s .address; last = s .last; «open» = s .«open»; message = s .message; alive = alive; heard = heard }

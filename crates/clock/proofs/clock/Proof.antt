@@ -6,7 +6,7 @@ use borrow.Author.Needs.{needs}
 use borrow.Author.Tests.{not-true, not-false}
 use Rattle.rules.specs.calls.Clock.{drops, dies, agedSenders, mapWhere, notTicked}
 use Rattle.rules.specs.calls.ClockLaws.{withSenders, map-again, map-below, state-more, ticked-is, clock-nine, clock-back, clock-on}
-use Rattle.state.specs.State.{sendersMost}
+use Rattle.state.specs.State.{sendersMost, withSenders}
 use Rattle.state.specs.LimitsLaws.{valid-count}
 use Rattle.state.specs.declared.Receiver.{Receiver}
 use Rattle.clock.proofs.clock.Statement.{statement}

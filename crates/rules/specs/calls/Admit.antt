@@ -19,7 +19,7 @@ use Rattle.answers.specs.declared.Dropped.{Dropped}
 use Rattle.answers.specs.declared.Outcome.{Outcome}
 use Rattle.answers.specs.declared.Outcome.the-variants.{Refused, Stored, Delivered}
 use Rattle.rules.specs.calls.First.{Row, row, first}
-use Rattle.state.specs.State.{noMessage}
+use Rattle.state.specs.State.{noMessage, joinedAs}
 
 -- ---- the open message and the PDU
 
@@ -82,7 +82,7 @@ lastBy v s h = cond (isUnchecked v) (s .last) (record { version = h .given .vers
 
 -- "nothing is then open"
 abbrev pub closed : Sender → Last → Sender
-closed s l = record { address = s .address; last = l; «open» = false; message = noMessage; alive = s .alive; heard = s .heard }
+closed s l = joinedAs s l false noMessage
 
 -- "kept with V_SEQ, SEQ, TCD, n, TBN, u and a 64-bit map of pieces held"; "A fragment that is stored sets the message's stamp to the clock."
 abbrev pub messageOf : ℕ → ℕ → Head → Message
@@ -98,7 +98,7 @@ messageOf clock map h = record {
 }
 
 abbrev pub opened : Sender → Message → Sender
-opened s m = record { address = s .address; last = s .last; «open» = true; message = m; alive = s .alive; heard = s .heard }
+opened s m = joinedAs s (s .last) true m
 
 -- The sender's record afterwards.
 unfoldable pub senderAfter : ℕ → ℕ → Sender → Head → Sender

@@ -8,28 +8,20 @@ use Rattle.state.specs.declared.Receiver.{Receiver}
 use Rattle.answers.specs.declared.Answer.{Answer}
 use Rattle.answers.specs.declared.Noted.{Noted}
 use Rattle.answers.specs.declared.Ticked.{Ticked}
-use Rattle.state.specs.State.{noMessage, noHeard, noSender, senderAt}
+use Rattle.state.specs.State.{noMessage, noHeard, noSender, senderAt, settingsFrom, joinedAs, heardAs}
 
 -- What is looked at of a sender: not "the record of a message not open", nor "the stamp and al_tm_out of a sender not alive".
 unfoldable pub seen : Sender → Sender
-seen s = record {
-  address = s .address;
-  last = s .last;
-  «open» = s .«open»;
-  message = cond (s .«open») (s .message) noMessage;
-  alive = s .alive;
-  heard = cond (s .alive) (s .heard) noHeard;
-}
+seen s = heardAs
+    (joinedAs s (s .last) (s .«open») (cond (s .«open») (s .message) noMessage))
+    (s .alive) (cond (s .alive) (s .heard) noHeard)
 
 -- ---- "never looked at"
 
 -- Two states with the same in all that is looked at. Of "places past the senders" nothing is said.
 pub record Alike (w v : Receiver) : Type 0 where
-  pub same-test : w .test ≡ v .test
-  pub same-n1 : w .n1 ≡ v .n1
-  pub same-t : w .t ≡ v .t
+  pub same-settings : settingsFrom w ≡ settingsFrom v
   pub same-clock : w .clock ≡ v .clock
-  pub same-count : w .count ≡ v .count
   pub same-seen : (k : ℕ) → k < w .count → seen (senderAt w k) ≡ seen (senderAt v k)
 
 -- Two answers that say the same and leave states that are alike: of the message call, the alive call and the clock call.

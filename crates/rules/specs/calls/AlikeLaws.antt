@@ -26,7 +26,7 @@ use Rattle.rules.specs.calls.Alive.{aliveRows, heardBy, noted, notNoted,
 use Rattle.rules.specs.calls.Clock.{clockRows, drops, dies, aged, agedSenders, mapWhere, ticked, notTicked, clockAnswer}
 use Rattle.rules.specs.calls.AliveLaws.{alive-facts}
 use Rattle.rules.specs.calls.QuestionLaws.{first-holds}
-use Rattle.rules.specs.calls.ClockLaws.{aged-done, withSenders}
+use Rattle.rules.specs.calls.ClockLaws.{aged-done}
 use Rattle.rules.specs.calls.First.{first}
 use Rattle.rules.specs.calls.FirstLaws.{first-none, first-behind, numbered}
 use Rattle.state.specs.Limits.{senderWithin, addressAt, sendersWithin, valid}
@@ -35,7 +35,7 @@ use Rattle.state.specs.Table.{found}
 use Rattle.rules.specs.calls.Message.{packetRows, messageRows, messageNumber, whereBy, withSender, taken, refused, messageAnswer, messageStorage}
 use Rattle.rules.specs.calls.MessageLaws.{passed-facts, taken-facts}
 use Rattle.rules.specs.calls.Question.{firstOpen, missingOf, questionAnswer}
-use Rattle.state.specs.State.{noSender, senderAt, firstWhere}
+use Rattle.state.specs.State.{noSender, senderAt, firstWhere, Settings, settingsFrom, stateOf, withSenders}
 use Rattle.rules.specs.calls.SeenLaws.{LooksAtSeen, looks-same, ChangesSeen, changes-same, looks-address, looks-open, looks-message, looks-within, looks-drops, looks-dies, changes-aged, changes-heard, looks-rows, looks-dropped, looks-held, looks-outcome, changes-after}
 use Rattle.state.specs.WithinLaws.{valid-length}
 
@@ -99,9 +99,8 @@ clock-passed w now e = not-false (valid w) (first-none 9 (not (valid w)) _ (λ z
 
 -- ---- "never looked at"
 
-alike-tables : {test : Bool} {n1 t clock count : ℕ} {l m : List Sender} → AlikeTables l m count
-    → Alike (record { test = test; n1 = n1; t = t; clock = clock; count = count; senders = l }) (record { test = test; n1 = n1; t = t; clock = clock; count = count; senders = m })
-alike-tables a = record { same-test = refl; same-n1 = refl; same-t = refl; same-clock = refl; same-count = refl; same-seen = a }
+alike-tables : {g : Settings} {clock : ℕ} {l m : List Sender} → AlikeTables l m (g .count) → Alike (stateOf g clock l) (stateOf g clock m)
+alike-tables a = record { same-settings = refl; same-clock = refl; same-seen = a }
 
 -- First for two states that differ in their tables alone.
 module _ (w : Receiver) (m : List Sender) (a : AlikeTables (w .senders) m (w .count)) where
@@ -228,7 +227,8 @@ module _ (w : Receiver) (m : List Sender) (a : AlikeTables (w .senders) m (w .co
 module _ (w v : Receiver) (a : Alike w v) where
   by-tables : (P : Receiver → Type 0) → ((m : List Sender) → AlikeTables (w .senders) m (w .count) → P (withSenders w m)) → P v
   by-tables P f =
-      let settings : withSenders w (v .senders) ≡ v = rw (a .same-test, a .same-n1, a .same-t, a .same-clock, a .same-count) in
+      let settings : withSenders w (v .senders) ≡ v
+      = ap (λ (g : Settings). stateOf g (w .clock) (v .senders)) (a .same-settings) ∙ ap (λ (t : ℕ). stateOf (settingsFrom v) t (v .senders)) (a .same-clock) in
       subst P settings (f (v .senders) (a .same-seen))
 
   pub alike-valid : valid w ≡ valid v

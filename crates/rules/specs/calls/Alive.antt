@@ -11,7 +11,6 @@ use Rattle.signal.specs.Alive.{bodyOf, isBody, groupOf}
 use Rattle.signal.specs.AlivePlaces.{aliveSize}
 use Rattle.header.specs.Codes.{isAlive, isMode, isPri}
 use Rattle.header.specs.Head.{headOf, isFixed}
-use Rattle.state.specs.declared.Heard.{Heard}
 use Rattle.state.specs.declared.Sender.{Sender}
 use Rattle.state.specs.declared.Receiver.{Receiver}
 use Rattle.answers.specs.declared.Call.the-variants.{Done, Refused}
@@ -20,7 +19,7 @@ use Rattle.rules.specs.calls.First.{Row, row, first}
 use Rattle.state.specs.Limits.{valid}
 use Rattle.state.specs.Table.{found}
 use Rattle.rules.specs.calls.Message.{lengthOutside, withSender}
-use Rattle.state.specs.State.{senderAt, noHeard}
+use Rattle.state.specs.State.{senderAt, noHeard, heardAs}
 
 -- ---- the numbers
 
@@ -53,9 +52,6 @@ unfoldable pub aliveRows : Receiver → List ℕ → List Row
 aliveRows w packet = signalRows (valid w) (w .count) (found w (headOf packet)) packet (headOf packet) (bodyOf packet)
 
 -- ---- what an alive signal does
-
-abbrev pub heardAs : Sender → Bool → Heard → Sender
-heardAs s alive heard = record { address = s .address; last = s .last; «open» = s .«open»; message = s .message; alive = alive; heard = heard }
 
 -- "Mode 1: the sender is alive, stamped with the clock and al_tm_out (unit by 5.3). Modes 2 and 3: dead from then on"
 unfoldable pub heardBy : ℕ → Sender → Body → Sender

@@ -27,7 +27,7 @@ use Rattle.rules.specs.calls.First.{first}
 use Rattle.rules.specs.calls.Message.{area, messageNumber, storageAfter, withSender, taken, refused, messageAnswer, messageStorage}
 use Rattle.state.specs.Table.{found}
 use Rattle.rules.specs.calls.MessageLaws.{taken-facts}
-use Rattle.state.specs.State.{noSender, senderAt}
+use Rattle.state.specs.State.{noSender, senderAt, settingsFrom}
 
 -- ---- storage
 
@@ -105,26 +105,16 @@ module _ (w : Receiver) (storage packet : List ℕ) (none : messageNumber w (len
 
 -- Two states that differ at most in one sender's record.
 pub record OnlySender (i : ℕ) (w v : Receiver) : Type 0 where
-  pub same-test : v .test ≡ w .test
-  pub same-n1 : v .n1 ≡ w .n1
-  pub same-t : v .t ≡ w .t
+  pub same-settings : settingsFrom v ≡ settingsFrom w
   pub same-clock : v .clock ≡ w .clock
-  pub same-count : v .count ≡ w .count
   pub same-others : (k : ℕ) → k ≢ i → senderAt v k ≡ senderAt w k
 
 only-none : (i : ℕ) (w : Receiver) → OnlySender i w w
-only-none i w = record { same-test = refl; same-n1 = refl; same-t = refl; same-clock = refl; same-count = refl; same-others = λ k ne. refl }
+only-none i w = record { same-settings = refl; same-clock = refl; same-others = λ k ne. refl }
 
 only-one : (i : ℕ) (w : Receiver) (s : Sender) → OnlySender i w (withSender w i s)
 unfolding withSender
-only-one i w s = record {
-  same-test = refl;
-  same-n1 = refl;
-  same-t = refl;
-  same-clock = refl;
-  same-count = refl;
-  same-others = λ k ne. getD-set-other (w .senders) i k s noSender ne;
-}
+only-one i w s = record { same-settings = refl; same-clock = refl; same-others = λ k ne. getD-set-other (w .senders) i k s noSender ne }
 
 -- A message call, whatever it answers, changes nothing of another sender's record,
 pub message-only : (w : Receiver) (room : ℕ) (packet : List ℕ) → OnlySender (found w (headOf packet)) w (messageAnswer w room packet .state)

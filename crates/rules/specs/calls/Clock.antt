@@ -10,7 +10,7 @@ use Rattle.answers.specs.declared.Call.the-variants.{Done, Refused}
 use Rattle.answers.specs.declared.Ticked.{Ticked}
 use Rattle.rules.specs.calls.First.{Row, row, first}
 use Rattle.state.specs.Limits.{valid, clockMost}
-use Rattle.state.specs.State.{noMessage, noHeard, noSender}
+use Rattle.state.specs.State.{noMessage, noHeard, noSender, settingsFrom, stateOf, joinedAs, heardAs}
 
 -- "21: clock back or above its limit"
 abbrev pub clockRows : Receiver → ℕ → List Row
@@ -26,14 +26,9 @@ dies now s = s .alive && leb (1000 * s .heard .timeout) (now - s .heard .stamp)
 
 -- The record of a message that was dropped, and the stamp and al_tm_out of a sender that died, are written 0.
 unfoldable pub aged : ℕ → ℕ → Sender → Sender
-aged t now s = record {
-  address = s .address;
-  last = s .last;
-  «open» = s .«open» && not (drops t now s);
-  message = cond (drops t now s) noMessage (s .message);
-  alive = s .alive && not (dies now s);
-  heard = cond (dies now s) noHeard (s .heard);
-}
+aged t now s = heardAs
+    (joinedAs s (s .last) (s .«open» && not (drops t now s)) (cond (drops t now s) noMessage (s .message)))
+    (s .alive && not (dies now s)) (cond (dies now s) noHeard (s .heard))
 
 -- The first k senders aged.
 unfoldable pub agedSenders : ℕ → ℕ → List Sender → ℕ → List Sender
@@ -50,14 +45,7 @@ ticked w now = record {
   call = Done;
   dropped = mapWhere (drops (w .t) now) (w .senders) (w .count);
   dead = mapWhere (dies now) (w .senders) (w .count);
-  state = record {
-    test = w .test;
-    n1 = w .n1;
-    t = w .t;
-    clock = now;
-    count = w .count;
-    senders = agedSenders (w .t) now (w .senders) (w .count);
-  };
+  state = stateOf (settingsFrom w) now (agedSenders (w .t) now (w .senders) (w .count));
 }
 
 unfoldable pub notTicked : Receiver → ℕ → Ticked

@@ -22,7 +22,7 @@ use Rattle.rules.specs.calls.Clock.{clockRows, drops, dies, aged, agedSe
 use Rattle.rules.specs.calls.First.{row, first}
 use Rattle.rules.specs.calls.FirstLaws.{first-here, first-later}
 use Rattle.state.specs.Limits.{valid, clockMost}
-use Rattle.state.specs.State.{noSender, senderAt}
+use Rattle.state.specs.State.{noSender, senderAt, settingsFrom, stateOf, withSenders}
 use Rattle.state.specs.WithinLaws.{written-place, valid-length}
 
 -- A sender whose turn has not come is as it was.
@@ -84,10 +84,6 @@ module _ (w : Receiver) (now : ℕ) (e : valid w ≡ true) where
 
 -- ---- one turn of the loop
 
--- A state with other senders.
-abbrev pub withSenders : Receiver → List Sender → Receiver
-withSenders w l = record { test = w .test; n1 = w .n1; t = w .t; clock = w .clock; count = w .count; senders = l }
-
 pub map-again : (t now : ℕ) (f : Sender → Bool) (l m : List Sender) (k x : ℕ) (b : Bool) → m ≡ agedSenders t now l k → x ≡ mapWhere f l k
     → b ≡ f (getD m k noSender) → x + cond b (2 ^ k) 0 ≡ mapWhere f l (k + 1)
 map-again t now f l m k x b e g h =
@@ -101,7 +97,7 @@ state-more w v t now k s e f =
 
 pub ticked-is : (w v : Receiver) (now k x y : ℕ) → k ≡ w .count → v ≡ withSenders w (agedSenders (w .t) now (w .senders) k)
     → x ≡ mapWhere (drops (w .t) now) (w .senders) k → y ≡ mapWhere (dies now) (w .senders) k
-    → record { call = Done; dropped = x; dead = y; state = record { test = v .test; n1 = v .n1; t = v .t; clock = now; count = v .count; senders = v .senders } } ≡ ticked w now
+    → record { call = Done; dropped = x; dead = y; state = stateOf (settingsFrom v) now (v .senders) } ≡ ticked w now
 unfolding ticked
 ticked-is w v now k x y e f g h = rw (g, h, f, e)
 

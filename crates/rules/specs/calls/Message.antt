@@ -21,7 +21,7 @@ use Rattle.answers.specs.declared.Where.the-variants.{Nothing, Packet, Storage}
 use Rattle.rules.specs.calls.Admit.{senderRows, admitted, noneDropped}
 use Rattle.rules.specs.calls.First.{Row, row, first}
 use Rattle.state.specs.Limits.{valid}
-use Rattle.state.specs.State.{senderAt}
+use Rattle.state.specs.State.{senderAt, withSenders}
 use Rattle.state.specs.Table.{found}
 
 -- "The storage is exactly 16,384 octets for each sender, in table order."
@@ -81,7 +81,7 @@ whereBy (Delivered v) i h = liesAt i h
 
 -- The state with another record for the sender at place i.
 unfoldable pub withSender : Receiver → ℕ → Sender → Receiver
-withSender w i s = record { test = w .test; n1 = w .n1; t = w .t; clock = w .clock; count = w .count; senders = set (w .senders) i s }
+withSender w i s = withSenders w (set (w .senders) i s)
 
 unfoldable pub taken : Receiver → ℕ → Sender → Head → Answer
 taken w i s h = record {

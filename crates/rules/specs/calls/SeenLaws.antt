@@ -6,16 +6,13 @@ use Prim.Native.Nat.{ℕ}
 use lib.Dec.{eqb}
 use Rattle.header.specs.declared.Head.{Head}
 use Rattle.signal.specs.declared.Body.{Body}
-use Rattle.state.specs.declared.Address.{Address}
-use Rattle.state.specs.declared.Last.{Last}
-use Rattle.state.specs.declared.Message.{Message}
-use Rattle.state.specs.declared.Heard.{Heard}
 use Rattle.state.specs.declared.Sender.{Sender}
 use Rattle.rules.specs.calls.Admit.{rejoins, senderRows, mapAfter, fills, droppedBy, heldAfter, senderAfter, admitted}
 use Rattle.rules.specs.calls.Alike.{seen}
 use Rattle.rules.specs.calls.Alive.{heardBy}
 use Rattle.rules.specs.calls.Clock.{drops, dies, aged}
 use Rattle.state.specs.Limits.{senderWithin}
+use Rattle.state.specs.State.{joinedAs, heardAs}
 
 -- ---- branches
 
@@ -48,17 +45,17 @@ pub changes-zero : (f : Sender → Sender) → ChangesSeen f → (s : Sender) �
 changes-zero f law s e = law s ∙ ap f e
 
 -- A sender has a message open or not, and is alive or not.
-abbrev sender : Address → Last → Message → Heard → Bool → Bool → Sender
-sender a l m h o v = record { address = a; last = l; «open» = o; message = m; alive = v; heard = h }
+abbrev flagged : Sender → Bool → Bool → Sender
+flagged s o v = heardAs (joinedAs s (s .last) o (s .message)) v (s .heard)
 
 module _ (P : Sender → Type 0) where
-  abbrev Cases : Address → Last → Message → Heard → Type 0
-  Cases a l m h = P (sender a l m h true true) × P (sender a l m h true false) × P (sender a l m h false true) × P (sender a l m h false false)
+  abbrev Cases : Sender → Type 0
+  Cases s = P (flagged s true true) × P (flagged s true false) × P (flagged s false true) × P (flagged s false false)
 
-  by-cases : ((a : Address) (l : Last) (m : Message) (h : Heard) → Cases a l m h) → (s : Sender) → P s
-  by-cases f s = by (f (s .address) (s .last) (s .message) (s .heard)) (s .«open») (s .alive)
+  by-cases : ((s : Sender) → Cases s) → (s : Sender) → P s
+  by-cases f s = by (f s) (s .«open») (s .alive)
     where
-      by : Cases (s .address) (s .last) (s .message) (s .heard) → (o v : Bool) → P (sender (s .address) (s .last) (s .message) (s .heard) o v)
+      by : Cases s → (o v : Bool) → P (flagged s o v)
       by c true true = c .0
       by c true false = c .1
       by c false true = c .2
@@ -79,21 +76,21 @@ looks-message s e = rw e
 
 pub looks-within : (clock : ℕ) → LooksAtSeen (senderWithin clock)
 unfolding seen senderWithin
-looks-within clock = by-cases _ (λ a l m h. (refl, refl, refl, refl))
+looks-within clock = by-cases _ (λ s. (refl, refl, refl, refl))
 
 -- The clock call.
 
 pub looks-drops : (t now : ℕ) → LooksAtSeen (drops t now)
 unfolding seen
-looks-drops t now = by-cases _ (λ a l m h. (refl, refl, refl, refl))
+looks-drops t now = by-cases _ (λ s. (refl, refl, refl, refl))
 
 pub looks-dies : (now : ℕ) → LooksAtSeen (dies now)
 unfolding seen
-looks-dies now = by-cases _ (λ a l m h. (refl, refl, refl, refl))
+looks-dies now = by-cases _ (λ s. (refl, refl, refl, refl))
 
 pub changes-aged : (t now : ℕ) → ChangesSeen (aged t now)
 unfolding seen aged
-changes-aged t now = by-cases _ (λ a l m h. (simp emptied, simp emptied, simp emptied, refl))
+changes-aged t now = by-cases _ (λ s. (simp emptied, simp emptied, simp emptied, refl))
 
 -- The alive call.
 
@@ -106,15 +103,15 @@ changes-heard clock b s = cond-ap seen (eqb (b .mode) 1) _ _
 module _ (h : Head) where
   pub looks-rows : (test : Bool) (n1 : ℕ) → LooksAtSeen (λ s. senderRows test n1 s h)
   unfolding seen senderRows rejoins
-  looks-rows test n1 = by-cases _ (λ a l m g. (refl, refl, refl, refl))
+  looks-rows test n1 = by-cases _ (λ s. (refl, refl, refl, refl))
 
   pub looks-map : LooksAtSeen (λ s. mapAfter s h)
   unfolding seen mapAfter rejoins
-  looks-map = by-cases _ (λ a l m g. (refl, refl, refl, refl))
+  looks-map = by-cases _ (λ s. (refl, refl, refl, refl))
 
   pub looks-dropped : LooksAtSeen (λ s. droppedBy s h)
   unfolding seen droppedBy rejoins
-  looks-dropped = by-cases _ (λ a l m g. (refl, refl, refl, refl))
+  looks-dropped = by-cases _ (λ s. (refl, refl, refl, refl))
 
   pub looks-fills : LooksAtSeen (λ s. fills s h)
   unfolding fills

@@ -14,7 +14,7 @@ use Rattle.answers.specs.declared.Call.the-variants.{Done, Refused}
 use Rattle.answers.specs.declared.Started.{Started}
 use Rattle.answers.specs.declared.Setup.{Setup}
 use Rattle.state.specs.Limits.{isN1, isDropTime, given, addressesWithin}
-use Rattle.state.specs.State.{sendersMost, noSender, newSender, emptyReceiver}
+use Rattle.state.specs.State.{sendersMost, noSender, newSender, emptyReceiver, Settings, stateOf}
 
 -- "Tag 1 setup: mode (1 octet: 0 online, 1 test, any other meets 10)"
 unfoldable pub setupWithin : Setup → Bool
@@ -26,16 +26,12 @@ unfoldable pub newSenders : List Address → ℕ → List Sender
 newSenders l zero = replicate sendersMost noSender
 newSenders l (suc k) = set (newSenders l k) k (newSender (given l k))
 
+abbrev pub settingsBy : Setup → Settings
+settingsBy q = record { test = eqb (q .mode) 1; n1 = q .n1; t = q .t; count = q .count }
+
 -- "At setup the clock is 0, nobody is heard, nothing is open and every last version and number is 0."
 unfoldable pub setupState : Setup → Receiver
-setupState q = record {
-  test = eqb (q .mode) 1;
-  n1 = q .n1;
-  t = q .t;
-  clock = 0;
-  count = q .count;
-  senders = newSenders (q .senders) (q .count);
-}
+setupState q = stateOf (settingsBy q) 0 (newSenders (q .senders) (q .count))
 
 -- "10: setup outside its limits: empty state"
 unfoldable pub setupAnswer : Setup → Started

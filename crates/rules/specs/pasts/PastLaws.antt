@@ -11,7 +11,7 @@ use Rattle.octets.specs.Split.{cond-case}
 use Rattle.header.specs.Head.{headOf}
 use Rattle.state.specs.declared.Receiver.{Receiver}
 use Rattle.state.specs.Limits.{valid, given}
-use Rattle.state.specs.State.{newSender, emptyReceiver, senderAt}
+use Rattle.state.specs.State.{newSender, emptyReceiver, senderAt, Settings, settingsFrom}
 use Rattle.state.specs.WithinLaws.{written-place}
 use Rattle.answers.specs.declared.Started.{Started}
 use Rattle.answers.specs.declared.Ticked.{Ticked}
@@ -64,17 +64,20 @@ pub same-room : (w : Receiver) (storage packet : List ℕ) → length (messageSt
 unfolding messageStorage
 same-room w storage packet = cond-case (λ (x : List ℕ). length x ≡ length storage) (eqb (messageNumber w (length storage) packet) 0) _ _ (λ _. length-after storage _ packet) (λ _. refl)
 
-clock-count : (w : Receiver) (now : ℕ) → clockAnswer w now .state .count ≡ w .count
+clock-settings : (w : Receiver) (now : ℕ) → settingsFrom (clockAnswer w now .state) ≡ settingsFrom w
 unfolding clockAnswer ticked notTicked
-clock-count w now =
-    cond-case (λ (a : Ticked). a .state .count ≡ w .count) (eqb (first (clockRows w now)) 0) (ticked w now) (notTicked w (first (clockRows w now))) (λ _. refl) (λ _. refl)
+clock-settings w now =
+    cond-case (λ (a : Ticked). settingsFrom (a .state) ≡ settingsFrom w) (eqb (first (clockRows w now)) 0) (ticked w now) (notTicked w (first (clockRows w now))) (λ _. refl) (λ _. refl)
+
+pub same-settings : (w : World) (e : Event) → settingsFrom (step w e .state) ≡ settingsFrom (w .state)
+unfolding step
+same-settings w (message packet) = message-only (w .state) (length (w .storage)) packet .same-settings
+same-settings w (alive packet) = alive-only (w .state) packet .same-settings
+same-settings w (clock now) = clock-settings (w .state) now
+same-settings w (aside call) = refl
 
 pub same-count : (w : World) (e : Event) → step w e .state .count ≡ w .state .count
-unfolding step
-same-count w (message packet) = message-only (w .state) (length (w .storage)) packet .same-count
-same-count w (alive packet) = alive-only (w .state) packet .same-count
-same-count w (clock now) = clock-count (w .state) now
-same-count w (aside call) = refl
+same-count w e = ap (λ (g : Settings). g .count) (same-settings w e)
 
 step-valid : (w : World) (e : Event) → valid (w .state) ≡ true → valid (step w e .state) ≡ true
 unfolding step

@@ -1,16 +1,15 @@
 -- One sender's view of a past: what its packets can see and change. The laws of joining speak of it alone.
 use Prim.Native.Nat.{ℕ, _*_}
-use mathlib.Core.Bool.{Bool, false, not, cond, _&&_, _||_}
+use mathlib.Core.Bool.{Bool, not, cond, _&&_, _||_}
 use mathlib.Core.List.{List}
 use lib.Dec.{eqb, ltb}
 use lib.ListN.{length}
 use Rattle.octets.specs.Run.{run}
 use Rattle.header.specs.Head.{headOf}
 use Rattle.state.specs.declared.Address.{Address}
-use Rattle.state.specs.declared.Receiver.{Receiver}
 use Rattle.state.specs.declared.Sender.{Sender}
 use Rattle.state.specs.Limits.{sameAddress, clockMost}
-use Rattle.state.specs.State.{noAddress, noHeard, senderAt}
+use Rattle.state.specs.State.{noSender, senderAt, Settings, joinedAs}
 use Rattle.state.specs.Table.{source}
 use Rattle.answers.specs.declared.Outcome.{Outcome}
 use Rattle.rules.specs.calls.Admit.{senderRows, admitted, admission}
@@ -19,15 +18,6 @@ use Rattle.rules.specs.calls.First.{first}
 use Rattle.rules.specs.calls.Message.{area, lengthWrong, headWithin, storageAfter}
 use Rattle.rules.specs.pasts.Past.{World, Event, message, alive, clock, aside}
 
--- The settings, which no past changes.
-pub record Settings : Type 0 where
-  pub test : Bool
-  pub n1 : ℕ
-  pub t : ℕ
-
-abbrev pub settingsFrom : Receiver → Settings
-settingsFrom w = record { test = w .test; n1 = w .n1; t = w .t }
-
 pub record View : Type 0 where
   pub sender : Sender
   pub now : ℕ
@@ -35,7 +25,7 @@ pub record View : Type 0 where
 
 -- What joining looks at of a sender's record: all but who it is and whether it is alive.
 abbrev pub joining : Sender → Sender
-joining s = record { address = noAddress; last = s .last; «open» = s .«open»; message = s .message; alive = false; heard = noHeard }
+joining s = joinedAs noSender (s .last) (s .«open») (s .message)
 
 unfoldable pub view : World → ℕ → View
 view w i = record { sender = joining (senderAt (w .state) i); now = w .state .clock; octets = run (i * area) area (w .storage) }

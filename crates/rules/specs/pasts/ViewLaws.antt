@@ -24,24 +24,23 @@ use Rattle.state.specs.declared.Address.{Address}
 use Rattle.state.specs.declared.Receiver.{Receiver}
 use Rattle.state.specs.declared.Sender.{Sender}
 use Rattle.state.specs.Limits.{sameAddress, addressAt, valid}
-use Rattle.state.specs.State.{noSender, senderAt, firstWhere}
+use Rattle.state.specs.State.{noSender, senderAt, firstWhere, Settings, settingsFrom}
 use Rattle.state.specs.Table.{source, found}
 use Rattle.state.specs.WithinLaws.{valid-length, valid-apart, same-both, set-place}
 use Rattle.answers.specs.declared.Answer.{Answer}
 use Rattle.answers.specs.declared.Noted.{Noted}
-use Rattle.answers.specs.declared.Ticked.{Ticked}
 use Rattle.rules.specs.calls.Admit.{senderRows, rejoins, mapAfter, fills, senderAfter, admitted, notAdmitted, admission}
-use Rattle.rules.specs.calls.ChangesLaws.{message-only, alive-only}
+use Rattle.rules.specs.calls.ChangesLaws.{alive-only}
 use Rattle.rules.specs.calls.Alive.{aliveRows, heardBy, aliveAnswer}
-use Rattle.rules.specs.calls.Clock.{clockRows, aged, ticked, notTicked, clockAnswer}
+use Rattle.rules.specs.calls.Clock.{aged}
 use Rattle.rules.specs.calls.ClockLaws.{clock-at}
 use Rattle.rules.specs.calls.First.{first}
 use Rattle.rules.specs.calls.Message.{area, lengthWrong, headWithin, messageRows, messageNumber, storageAfter, withSender, taken, refused, messageAnswer, messageStorage}
 use Rattle.rules.specs.calls.MessageLaws.{Passed, taken-facts}
 use Rattle.rules.specs.pasts.Past.{World, Event, message, alive, clock, aside, step, after}
-use Rattle.rules.specs.pasts.PastLaws.{Sound, same-count, step-sound}
+use Rattle.rules.specs.pasts.PastLaws.{Sound, same-settings, same-count, step-sound}
 use Rattle.rules.specs.calls.QuestionLaws.{first-of, first-holds}
-use Rattle.rules.specs.pasts.View.{Settings, settingsFrom, View, joining, view, inOrder, isFrom, sees, numberOf, outcomeView, put, nextView, tickView, stepView}
+use Rattle.rules.specs.pasts.View.{View, joining, view, inOrder, isFrom, sees, numberOf, outcomeView, put, nextView, tickView, stepView}
 
 -- ---- a packet in order comes as far as its sender's place
 
@@ -306,21 +305,7 @@ module _ (w : World) (sound : Sound w) (i : ℕ) (here : i < w .state .count) wh
   view-step (clock now) = view-clock now
   view-step (aside call) = unfold step in refl
 
--- ---- what no call changes: the settings, and who the senders are
-
-same-settings : (w : World) (e : Event) → settingsFrom (step w e .state) ≡ settingsFrom (w .state)
-unfolding step
-same-settings w (message packet) =
-    let o = message-only (w .state) (length (w .storage)) packet in
-    rw (o .same-test, o .same-n1, o .same-t)
-same-settings w (alive packet) =
-    let o = alive-only (w .state) packet in
-    rw (o .same-test, o .same-n1, o .same-t)
-same-settings w (clock now) =
-    unfold clockAnswer in
-    cond-case (λ (x : Ticked). settingsFrom (x .state) ≡ settingsFrom (w .state)) (eqb (first (clockRows (w .state) now)) 0) (ticked (w .state) now) (notTicked (w .state) (first (clockRows (w .state) now)))
-    (λ _. unfold ticked in refl) (λ _. unfold notTicked in refl)
-same-settings w (aside call) = refl
+-- ---- who the senders are, no call changes
 
 address-after : (n1 now : ℕ) (s : Sender) (h : Head) → admitted n1 now s h .sender .address ≡ s .address
 unfolding admitted senderAfter

@@ -20,12 +20,12 @@ use Rattle.state.specs.declared.Heard.{Heard}
 use Rattle.state.specs.declared.Receiver.{Receiver}
 use Rattle.state.specs.declared.Sender.{Sender}
 use Rattle.state.specs.Limits.{sameAddress, addressAt, valid}
-use Rattle.state.specs.State.{noLast, noMessage, noAddress, noSender, senderAt}
+use Rattle.state.specs.State.{noSender, senderAt, heardAs}
 use Rattle.state.specs.Table.{source, found}
 use Rattle.state.specs.WithinLaws.{valid-length}
 use Rattle.answers.specs.declared.Noted.{Noted}
 use Rattle.rules.specs.calls.Admit.{fills, senderAfter, admitted}
-use Rattle.rules.specs.calls.Alive.{aliveLengthWrong, aliveHeadWithin, aliveWithin, aliveRows, heardAs, heardBy, aliveAnswer}
+use Rattle.rules.specs.calls.Alive.{aliveLengthWrong, aliveHeadWithin, aliveWithin, aliveRows, heardBy, aliveAnswer}
 use Rattle.rules.specs.calls.AliveLaws.{alive-facts}
 use Rattle.rules.specs.promised.AlivePast.{clockRefused, timeBy, timeAfter, clockTimes, isSignal, AliveBy}
 use Rattle.rules.specs.calls.ChangesLaws.{message-only, alive-only}
@@ -45,7 +45,7 @@ record Life : Type 0 where
 
 -- All of a sender's record but whether it is alive, its stamp and its al_tm_out is put away.
 abbrev living : Sender → Sender
-living s = record { address = noAddress; last = noLast; «open» = false; message = noMessage; alive = s .alive; heard = s .heard }
+living s = heardAs noSender (s .alive) (s .heard)
 
 unfoldable life : World → ℕ → Life
 life w i = record { sender = living (senderAt (w .state) i); now = w .state .clock }

@@ -19,7 +19,7 @@ use Rattle.state.specs.declared.Last.{Last}
 use Rattle.state.specs.declared.Receiver.{Receiver}
 use Rattle.state.specs.declared.Sender.{Sender}
 use Rattle.state.specs.Limits.{addressAt, valid, settingsOf, isN1, isDropTime, clockMost}
-use Rattle.state.specs.State.{sendersMost, senderAt}
+use Rattle.state.specs.State.{sendersMost, senderAt, Settings, settingsFrom}
 use Rattle.state.specs.WithinLaws.{valid-settings, valid-sender, message-facts}
 use Rattle.answers.specs.declared.Outcome.the-variants.{Delivered}
 use Rattle.rules.specs.promised.Accepted.{isAccepted, acceptedOf, acceptedIn}
@@ -35,7 +35,7 @@ use Rattle.rules.specs.promised.PhaseLaws.{Phase, phase-same, phase-star
 use Rattle.rules.specs.promised.PieceLaws.{Cuttable, least, piece-kin, piece-number, piece-octets}
 use Rattle.rules.specs.promised.JoinLaws.{Inv}
 use Rattle.rules.specs.promised.SafeLaws.{IfTaken, accepted-step, accepted-all, inv-step, inv-after, joined-part, start-inv, start-registered}
-use Rattle.rules.specs.pasts.View.{Settings, settingsFrom, View, joining, view, isFrom, sees, outcomeView, nextView, tickView, stepView}
+use Rattle.rules.specs.pasts.View.{View, joining, view, isFrom, sees, outcomeView, nextView, tickView, stepView}
 use Rattle.rules.specs.pasts.ViewLaws.{Registered, registered-step, registered-view, registered-number, registered-outcome, registered-after}
 
 open-facts : (m : Sent) (s : Sender) → isOpen m s ≡ true → (s .«open» ≡ true) × (s .message .version .0 ≡ m .version) × (s .message .number .0 ≡ m .number)

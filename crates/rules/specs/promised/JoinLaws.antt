@@ -25,13 +25,14 @@ use Rattle.map.specs.Map.{bit, holds, pieceBit, fullMap}
 use Rattle.map.specs.MapLaws.{bit-set, bit-keep, bit-zero, set-below, full-bit, holds-not}
 use Rattle.state.specs.declared.Message.{Message}
 use Rattle.state.specs.declared.Sender.{Sender}
+use Rattle.state.specs.State.{Settings}
 use Rattle.state.specs.Limits.{clockMost}
 use Rattle.rules.specs.calls.Admit.{rejoins, sameCut, mapAfter, fills, messageOf, senderAfter, admitted}
 use Rattle.rules.specs.calls.AdmitLaws.{Admitted, admitted-facts, rejoins-open}
 use Rattle.rules.specs.calls.Clock.{drops, aged}
 use Rattle.rules.specs.promised.Join.{Kin, kinOf, kinIn, numberIn, behind, Brought, OnePerNumber, Joined}
 use Rattle.rules.specs.calls.Message.{area, storageAfter}
-use Rattle.rules.specs.pasts.View.{Settings, View, numberOf, put, nextView, tickView}
+use Rattle.rules.specs.pasts.View.{View, numberOf, put, nextView, tickView}
 
 -- Where piece c of a message lies in an area.
 abbrev pub pieceAt : ℕ → ℕ → ℕ → List ℕ → List ℕ

@@ -19,13 +19,14 @@ use Rattle.map.specs.Map.{bit, holds, pieceBit, fullMap}
 use Rattle.map.specs.MapLaws.{bit-set, bit-keep, bit-zero, set-below, full-bit, full-only, holds-not}
 use Rattle.state.specs.declared.Last.{Last}
 use Rattle.state.specs.declared.Sender.{Sender}
+use Rattle.state.specs.State.{Settings}
 use Rattle.answers.specs.declared.Outcome.the-variants.{Refused, Stored, Delivered}
 use Rattle.rules.specs.calls.Admit.{fills, mapAfter, verdictOf, messageOf, opened, closed, lastBy, senderAfter, admitted, notAdmitted, admission}
 use Rattle.rules.specs.calls.Clock.{drops, aged}
 use Rattle.rules.specs.promised.Delivery.{Sent, count, Numbered, PieceOf, isOpen, verdictFor}
 use Rattle.rules.specs.promised.Join.{kinIn}
 use Rattle.rules.specs.promised.PieceLaws.{Cuttable, kinFor, first-numbered, piece-kin, piece-on-ring, mapOf, larger, verdict-is, number-again, number-new, map-is, fills-is}
-use Rattle.rules.specs.pasts.View.{Settings, View, joining, numberOf, outcomeView, put, nextView}
+use Rattle.rules.specs.pasts.View.{View, joining, numberOf, outcomeView, put, nextView}
 
 -- Pieces are missing. C is which pieces came; the check still says what it said of the last number at the start.
 pub record Unfinished (m : Sent) (last : Last) (C : ℕ → Type 0) (s : Sender) : Type 0 where

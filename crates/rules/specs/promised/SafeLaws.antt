@@ -22,7 +22,7 @@ use Rattle.cut.specs.PossibleLaws.{possible-facts}
 use Rattle.state.specs.declared.Address.{Address}
 use Rattle.state.specs.declared.Sender.{Sender}
 use Rattle.state.specs.Limits.{sameAddress, addressAt, valid}
-use Rattle.state.specs.State.{senderAt}
+use Rattle.state.specs.State.{senderAt, Settings, settingsFrom}
 use Rattle.state.specs.Table.{source, found}
 use Rattle.state.specs.WithinLaws.{valid-sender, same-is}
 use Rattle.answers.specs.declared.Answer.{Answer}
@@ -39,7 +39,7 @@ use Rattle.rules.specs.calls.Part.{partOf, storedPart}
 use Rattle.rules.specs.pasts.Past.{World, Event, message, alive, clock, aside, step, after, answerTo, partTo, said, answers, Start}
 use Rattle.rules.specs.pasts.PastLaws.{Sound, length-after, start-sound, start-sender, past-sound, after-count}
 use Rattle.rules.specs.calls.QuestionLaws.{first-holds}
-use Rattle.rules.specs.pasts.View.{Settings, settingsFrom, view, inOrder, isFrom, sees, numberOf, stepView}
+use Rattle.rules.specs.pasts.View.{view, inOrder, isFrom, sees, numberOf, stepView}
 use Rattle.rules.specs.pasts.ViewLaws.{out-of-order, number-at, own-octets, fills-joining, Registered, registered-step, registered-view, registered-number, registered-place, registered-after}
 
 module _ (w : World) (sound : Sound w) (p : List ℕ) (vd : Verdict) (gave : messageAnswer (w .state) (length (w .storage)) p .outcome ≡ Delivered vd) where
