@@ -127,17 +127,18 @@ not-behind j k b rs ne none (inr g) = none (g .1)
 not-above : (j : ℕ) (rs : List Row) → above j rs ≡ true → ¬ (Given rs j)
 not-above j rs a g = omega (arith, given-above j rs j a g)
 
+-- Neither 9 nor 11 is given where 9 does not apply, and 11 is not given behind.
+neither : (b : Bool) (rs : List Row) → b ≡ true → above 9 rs ≡ true → ¬ (Given rs 11) → ¬ (Given (row 9 (not b) ∷ rs) 9) × ¬ (Given (row 9 (not b) ∷ rs) 11)
+neither b rs e a none = (not-given 9 (not b) rs (rw e) a, not-behind 11 9 (not b) rs (λ z. omega (arith, z)) none)
+
 -- A valid state meets no 9, and storage of the right length no 11.
 never-given : (w : World) → Sound w → (e : Event) → ¬ (Given (rowsOf w e) 9) × ¬ (Given (rowsOf w e) 11)
 unfolding messageRows senderRows aliveRows above
-never-given w s (message packet) = (
-  not-given 9 (not (valid (w .state))) _ (rw (s .is-valid)) refl,
-  not-behind 11 9 (not (valid (w .state))) _ (λ z. omega (arith, z))
-      (not-given 11 (not (eqb (length (w .storage)) (w .state .count * area))) _ (rw (eq-eqb (length (w .storage)) (w .state .count * area) (s .room))) refl),
-)
-never-given w s (alive packet) = (not-given 9 (not (valid (w .state))) _ (rw (s .is-valid)) refl, not-behind 11 9 _ _ (λ z. omega (arith, z)) (not-above 11 _ refl))
-never-given w s (clock now) = (not-given 9 (not (valid (w .state))) _ (rw (s .is-valid)) refl, not-behind 11 9 _ _ (λ z. omega (arith, z)) (not-above 11 _ refl))
-never-given w s (aside question) = (not-given 9 (not (valid (w .state))) _ (rw (s .is-valid)) refl, not-behind 11 9 _ _ (λ z. omega (arith, z)) (not-above 11 _ refl))
+never-given w s (message packet) = neither _ _ (s .is-valid) refl
+    (not-given 11 (not (eqb (length (w .storage)) (w .state .count * area))) _ (rw (eq-eqb (length (w .storage)) (w .state .count * area) (s .room))) refl)
+never-given w s (alive packet) = neither _ _ (s .is-valid) refl (not-above 11 _ refl)
+never-given w s (clock now) = neither _ _ (s .is-valid) refl (not-above 11 _ refl)
+never-given w s (aside question) = neither _ _ (s .is-valid) refl (not-above 11 _ refl)
 
 pub never-nine : NeverNine
 never-nine q r w m es rs v c e a u meets =
