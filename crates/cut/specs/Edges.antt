@@ -26,7 +26,7 @@ pub holds : Edge → Bool
 holds (count n u t) = eqb (pieces n u) t
 holds (length n u k) = eqb (cutFor n u 1 .ml) k
 holds (size n u c k) = eqb (cutFor n u c .bsize) k
-holds (verdict r s v) = same (check 16 5 r 5 s) v
+holds (verdict r s v) = same (check 16 (record { 0 = 5 }) (record { 0 = r }) (record { 0 = 5 }) (record { 0 = s })) v
 
 pub all : List Edge → Bool
 all [] = true

@@ -11,6 +11,8 @@ use borrow.Author.Tests.{le-leb}
 use Rattle.octets.specs.Run.{run, laid}
 use Rattle.octets.specs.RunLaws.{run-laid}
 use Rattle.octets.specs.Split.{cond-case, both}
+use Rattle.ring.specs.declared.Number.{Number}
+use Rattle.ring.specs.declared.Version.{Version}
 use Rattle.ring.specs.declared.Verdict.{Verdict}
 use Rattle.ring.specs.declared.Verdict.the-variants.{Unchecked, First}
 use Rattle.ring.specs.Check.{check, isRepeat}
@@ -24,6 +26,7 @@ use Rattle.cut.specs.Pieces.{leastUnit, mostUnit, pieceLength}
 use Rattle.cut.specs.Possible.{isUnit}
 use Rattle.cut.specs.ReadLaws.{Words, cuts-within, cuts-room}
 use Rattle.state.specs.declared.Sender.{Sender}
+use Rattle.state.specs.State.{noLast}
 use Rattle.answers.specs.declared.Outcome.the-variants as outcome
 use Rattle.rules.specs.promised.CutPiecesLaws.{sentBy, cuts-piece}
 use Rattle.rules.specs.promised.Delivery.{Sent, PieceOf, Came, May, Between, OnlyPieces, verdictFor}
@@ -88,9 +91,9 @@ module _ (m : Sent) (i : ℕ) (packets : ℕ → List ℕ) where
       came
 
 -- Nothing was delivered before, so nothing is a repeat.
-no-repeat-first : (n1 v s : ℕ) → isRepeat (check n1 0 0 v s) ≡ false
+no-repeat-first : (n1 : ℕ) (v : Version) (s : Number) → isRepeat (check n1 (noLast .version) (noLast .number) v s) ≡ false
 unfolding check
-no-repeat-first n1 v s = cond-case (λ (x : Verdict). isRepeat x ≡ false) (eqb v 0 && eqb s 1) Unchecked First (λ _. refl) (λ _. refl)
+no-repeat-first n1 v s = cond-case (λ (x : Verdict). isRepeat x ≡ false) (eqb (v .0) 0 && eqb (s .0) 1) Unchecked First (λ _. refl) (λ _. refl)
 
 pub comes-back : ComesBack
 unfolding after

@@ -130,7 +130,7 @@ DeliveredOnce = AfterPast (λ w past rs v. (m : Sent) (i : ℕ) → May m i past
     → (es : List Event) (ts : Answers es) (u : World) → Course v es ts u → Between (OnlyPieces m) m i v es
     → (c : ℕ) (packet : List ℕ) → PieceOf m c packet → (r : Said (message packet)) (x : World) → Meets u (message packet) r x
     → Arrives m (verdictFor (v .state .n1) m (senderAt (v .state) i .last)) es c (r .0 .outcome) (r .1)
-    × (m .version ≢ 0 → Once m es (r .0 .outcome)) × OneApplies m es c)
+    × (m .version .0 ≢ 0 → Once m es (r .0 .outcome)) × OneApplies m es c)
 
 -- "Whether or not those conditions hold, nothing is ever delivered but a join of pieces accepted since that message last opened, one for each
 -- piece number."

@@ -169,7 +169,7 @@ delivers q r w m past rs v c sent i may es ts u d between k packet is a x meets 
     (promised .0, promised .1, one-applies sent es k)
   where
     Promised : World → Outcome → List ℕ → Type 0
-    Promised y out part = Arrives sent (verdictFor (y .state .n1) sent (senderAt (y .state) i .last)) es k out part × (sent .version ≢ 0 → Once sent es out)
+    Promised y out part = Arrives sent (verdictFor (y .state .n1) sent (senderAt (y .state) i .last)) es k out part × (sent .version .0 ≢ 0 → Once sent es out)
 
 pub is-safe : Safety
 unfolding said

@@ -7,50 +7,46 @@ use native.Mathlib.Omega.{arith}
 use lib.Dec.{eqb, ltb}
 use borrow.Author.Tests.{eqb-true, eq-eqb, ne-eqb, lt-ltb, le-ltb}
 use Rattle.octets.specs.Split.{lt-or-le, eq-or-ne, not-both, cond-case}
+use Rattle.ring.specs.declared.Number.{Number}
+use Rattle.ring.specs.declared.Version.{Version}
 use Rattle.ring.specs.declared.Verdict.{Verdict}
 use Rattle.ring.specs.declared.Verdict.the-variants.{Unchecked, First, Restart, Repeat, Next, Gap}
 use Rattle.ring.specs.Ring.{M, back, skipped}
 use Rattle.ring.specs.RingLaws.{remainder-only, skipped-back}
-use Rattle.ring.specs.Check.{check, rule4, isUnchecked}
+use Rattle.ring.specs.Check.{check, rule4, Free, Says, isUnchecked}
+use Rattle.ring.specs.Check.Says.{rule-1, rule-2, rule-3, rule-4-repeat, rule-4-next, rule-4-gap}
 
 -- Rule 4 by the distance alone.
-pub rule4-by-distance : (n1 r s d : ℕ) → d ≡ back r s
+pub rule4-by-distance : (n1 : ℕ) (r s : Number) (d : ℕ) → d ≡ back r s
     → cond (ltb d n1) Repeat (cond (eqb d (M - 1)) Next (Gap (M - 1 - d))) ≡ rule4 n1 r s
 unfolding rule4
 rule4-by-distance n1 r s d e = rw (e, ← skipped-back r s)
 
-module _ (n1 rv r v s : ℕ) where
-  -- "V_SEQ = 0 and SEQ = 1"
-  abbrev Free : Type 0
-  Free = (v ≡ 0) × (s ≡ 1)
+module _ (n1 : ℕ) (rv : Version) (r : Number) (v : Version) (s : Number) where
+  abbrev None : Type 0
+  None = ¬ (Free v s)
 
-  -- The four rules as they are printed, "in this order": each applies where none before it does.
-  pub data Says : Verdict → Type 0 where
-    rule-1 : v ≡ 0 → s ≡ 1 → Says Unchecked
-    rule-2 : ¬ Free → rv ≡ 0 → Says First
-    rule-3 : ¬ Free → rv ≢ 0 → v ≢ rv → Says Restart
-    rule-4-repeat : ¬ Free → rv ≢ 0 → v ≡ rv → back r s < n1 → Says Repeat
-    rule-4-next : ¬ Free → rv ≢ 0 → v ≡ rv → n1 ≤ back r s → back r s ≡ M - 1 → Says Next
-    rule-4-gap : ¬ Free → rv ≢ 0 → v ≡ rv → n1 ≤ back r s → back r s ≢ M - 1 → Says (Gap (skipped r s))
+  abbrev Said : Verdict → Type 0
+  Said = Says n1 rv r v s
 
-  pub check-free : v ≡ 0 → s ≡ 1 → check n1 rv r v s ≡ Unchecked
+  pub check-free : Free v s → check n1 rv r v s ≡ Unchecked
   unfolding check
-  check-free e f = simp (eq-eqb v 0 e, eq-eqb s 1 f)
+  check-free e = simp (eq-eqb (v .0) 0 (e .0), eq-eqb (s .0) 1 (e .1))
 
-  not-free : ¬ Free → eqb v 0 && eqb s 1 ≡ false
-  not-free n = not-both (eqb v 0) (eqb s 1) (λ e f. n (eqb-true v 0 e, eqb-true s 1 f))
+  not-free : None → eqb (v .0) 0 && eqb (s .0) 1 ≡ false
+  not-free n = not-both (eqb (v .0) 0) (eqb (s .0) 1) (λ e f. n (eqb-true (v .0) 0 e, eqb-true (s .0) 1 f))
 
-  pub check-first : ¬ Free → rv ≡ 0 → check n1 rv r v s ≡ First
+  pub check-first : None → rv .0 ≡ 0 → check n1 rv r v s ≡ First
   unfolding check
-  check-first n e = simp (not-free n, eq-eqb rv 0 e)
+  check-first n e = simp (not-free n, eq-eqb (rv .0) 0 e)
 
-  pub check-restart : ¬ Free → rv ≢ 0 → v ≢ rv → check n1 rv r v s ≡ Restart
+  pub check-restart : None → rv .0 ≢ 0 → v .0 ≢ rv .0 → check n1 rv r v s ≡ Restart
   unfolding check
-  check-restart n e f = simp (not-free n, ne-eqb rv 0 e, ne-eqb v rv f)
+  check-restart n e f = simp (not-free n, ne-eqb (rv .0) 0 e, ne-eqb (v .0) (rv .0) f)
 
-  pub check-rule4 : ¬ Free → rv ≢ 0 → v ≡ rv → check n1 rv r v s ≡ rule4 n1 r s
+  pub check-rule4 : None → rv .0 ≢ 0 → v .0 ≡ rv .0 → check n1 rv r v s ≡ rule4 n1 r s
   unfolding check
-  check-rule4 n e f = simp (not-free n, ne-eqb rv 0 e, eq-eqb v rv f)
+  check-rule4 n e f = simp (not-free n, ne-eqb (rv .0) 0 e, eq-eqb (v .0) (rv .0) f)
 
   rule4-repeat : back r s < n1 → rule4 n1 r s ≡ Repeat
   unfolding rule4
@@ -65,8 +61,8 @@ module _ (n1 rv r v s : ℕ) where
   rule4-gap h e = simp (le-ltb (back r s) n1 h, ne-eqb (back r s) (M - 1) e)
 
   -- No verdict but the check's applies.
-  pub says-only : {x : Verdict} → Says x → x ≡ check n1 rv r v s
-  says-only (rule-1 e f) = sym (check-free e f)
+  pub says-only : {x : Verdict} → Said x → x ≡ check n1 rv r v s
+  says-only (rule-1 e) = sym (check-free e)
   says-only (rule-2 n e) = sym (check-first n e)
   says-only (rule-3 n e f) = sym (check-restart n e f)
   says-only (rule-4-repeat n e f h) = sym (check-rule4 n e f ∙ rule4-repeat h)
@@ -74,9 +70,9 @@ module _ (n1 rv r v s : ℕ) where
   says-only (rule-4-gap n e f h g) = sym (check-rule4 n e f ∙ rule4-gap h g)
 
   abbrev Some : Type 0
-  Some = (x : Verdict) × Says x
+  Some = (x : Verdict) × Said x
 
-  some-4 : ¬ Free → rv ≢ 0 → v ≡ rv → Some
+  some-4 : None → rv .0 ≢ 0 → v .0 ≡ rv .0 → Some
   some-4 n e f = ⊎-elim
       (λ (h : back r s < n1). (Repeat, rule-4-repeat n e f h))
       (λ (h : n1 ≤ back r s). ⊎-elim
@@ -85,43 +81,43 @@ module _ (n1 rv r v s : ℕ) where
       (eq-or-ne (back r s) (M - 1)))
       (lt-or-le (back r s) n1)
 
-  some-2 : ¬ Free → Some
+  some-2 : None → Some
   some-2 n = ⊎-elim
-      (λ (e : rv ≡ 0). (First, rule-2 n e))
-      (λ (e : rv ≢ 0). ⊎-elim
-      (λ (f : v ≡ rv). some-4 n e f)
-      (λ (f : v ≢ rv). (Restart, rule-3 n e f))
-      (eq-or-ne v rv))
-      (eq-or-ne rv 0)
+      (λ (e : rv .0 ≡ 0). (First, rule-2 n e))
+      (λ (e : rv .0 ≢ 0). ⊎-elim
+      (λ (f : v .0 ≡ rv .0). some-4 n e f)
+      (λ (f : v .0 ≢ rv .0). (Restart, rule-3 n e f))
+      (eq-or-ne (v .0) (rv .0)))
+      (eq-or-ne (rv .0) 0)
 
   some-1 : Some
   some-1 = ⊎-elim
-      (λ (e : v ≡ 0). ⊎-elim
-      (λ (f : s ≡ 1). (Unchecked, rule-1 e f))
-      (λ (f : s ≢ 1). some-2 (λ g. f (g .1)))
-      (eq-or-ne s 1))
-      (λ (e : v ≢ 0). some-2 (λ g. e (g .0)))
-      (eq-or-ne v 0)
+      (λ (e : v .0 ≡ 0). ⊎-elim
+      (λ (f : s .0 ≡ 1). (Unchecked, rule-1 (e, f)))
+      (λ (f : s .0 ≢ 1). some-2 (λ g. f (g .1)))
+      (eq-or-ne (s .0) 1))
+      (λ (e : v .0 ≢ 0). some-2 (λ g. e (g .0)))
+      (eq-or-ne (v .0) 0)
 
   -- And the check's does.
-  pub says-check : Says (check n1 rv r v s)
+  pub says-check : Said (check n1 rv r v s)
   says-check = rw (says-only (some-1 .1)) at (some-1 .1)
 
 -- ---- of a version that is not 0
 
 -- What is delivered is then stored as the last number,
-pub is-checked : (n1 rv r v s : ℕ) → v ≢ 0 → isUnchecked (check n1 rv r v s) ≡ false
+pub is-checked : (n1 : ℕ) (rv : Version) (r : Number) (v : Version) (s : Number) → v .0 ≢ 0 → isUnchecked (check n1 rv r v s) ≡ false
 unfolding check rule4
 is-checked n1 rv r v s some =
-    rw (ne-eqb v 0 some)
-    (cond-case (λ (x : Verdict). isUnchecked x ≡ false) (eqb rv 0) First _ (λ _. refl)
-    (λ _. cond-case (λ (x : Verdict). isUnchecked x ≡ false) (not (eqb v rv)) Restart _ (λ _. refl)
+    rw (ne-eqb (v .0) 0 some)
+    (cond-case (λ (x : Verdict). isUnchecked x ≡ false) (eqb (rv .0) 0) First _ (λ _. refl)
+    (λ _. cond-case (λ (x : Verdict). isUnchecked x ≡ false) (not (eqb (v .0) (rv .0))) Restart _ (λ _. refl)
     (λ _. cond-case (λ (x : Verdict). isUnchecked x ≡ false) (ltb (back r s) n1) Repeat _ (λ _. refl)
     (λ _. cond-case (λ (x : Verdict). isUnchecked x ≡ false) (eqb (back r s) (M - 1)) Next (Gap (skipped r s)) (λ _. refl) (λ _. refl)))))
 
 -- and the last number again is a repeat.
-pub check-again : (n1 v s : ℕ) → v ≢ 0 → 1 ≤ n1 → check n1 v s v s ≡ Repeat
+pub check-again : (n1 : ℕ) (v : Version) (s : Number) → v .0 ≢ 0 → 1 ≤ n1 → check n1 v s v s ≡ Repeat
 check-again n1 v s some one =
-    let here : 0 ≡ back s s = remainder-only s s 0 (omega arith) (omega arith) in
+    let here : 0 ≡ back s s = remainder-only (s .0) (s .0) 0 (omega arith) (omega arith) in
     check-rule4 n1 v s v s (λ e. some (e .0)) some refl
     ∙ rule4-repeat n1 v s v s (omega (arith, here))

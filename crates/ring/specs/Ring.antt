@@ -2,6 +2,7 @@
 use Prim.Native.Nat.{ℕ, _+_, _-_, _%_, _≤_}
 use mathlib.Core.Bool.{Bool, _&&_}
 use lib.Dec.{leb, ltb}
+use Rattle.ring.specs.declared.Number.{Number}
 
 -- "SEQ is 1 to M, where M = 2,147,483,647."
 abbrev pub M : ℕ
@@ -20,13 +21,13 @@ unfoldable pub remainder : ℕ → ℕ → ℕ
 remainder a b = (a % M + (M - b % M)) % M
 
 -- "Let d be the remainder of R − SEQ by M": how far back SEQ lies behind R.
-abbrev pub back : ℕ → ℕ → ℕ
-back r s = remainder r s
+abbrev pub back : Number → Number → ℕ
+back r s = remainder (r .0) (s .0)
 
 -- "(SEQ − R − 1) modulo M numbers skipped"
-abbrev pub skipped : ℕ → ℕ → ℕ
-skipped r s = remainder s (r + 1)
+abbrev pub skipped : Number → Number → ℕ
+skipped r s = remainder (s .0) (r .0 + 1)
 
 -- "the same version and a larger number": a is newer than b.
-unfoldable pub newer : ℕ → ℕ → Bool
-newer a b = ltb b a
+unfoldable pub newer : Number → Number → Bool
+newer a b = ltb (b .0) (a .0)

@@ -7,10 +7,11 @@ use native.Mathlib.Omega.{arith}
 use lib.Dec.{eqb, ltb, leb}
 use borrow.Author.Tests.{eqb-true, eq-eqb, ne-eqb, lt-ltb, le-ltb, le-leb, ltb-true, leb-true}
 use Rattle.octets.specs.Split.{lt-or-le, eq-or-ne, same-test, both, and-left, and-right, or-left, or-right, either, not-both}
+use Rattle.ring.specs.declared.Number.{Number}
 use Rattle.ring.specs.declared.Verdict.{Verdict}
 use Rattle.ring.specs.declared.Verdict.the-variants.{Unchecked, First, Restart, Repeat, Next, Gap}
-use Rattle.ring.specs.Ring.{M, OnRing, back}
-use Rattle.ring.specs.RingLaws.{back-below, back-above}
+use Rattle.ring.specs.Ring.{M, OnRing, remainder, skipped}
+use Rattle.ring.specs.RingLaws.{remainder-below, remainder-above}
 use Rattle.ring.specs.Check.{rule4}
 
 -- "Normal message reception", "Duplicated message reception", "Missing message"
@@ -48,15 +49,15 @@ result (Gap k) = missing
 
 module _ (n1 r s : ℕ) (hr : OnRing r) (hs : OnRing s) (low : 1 ≤ n1) (high : n1 ≤ 1024) where
   d : ℕ
-  d = back r s
+  d = remainder r s
 
   below : s ≤ r → d ≡ r - s
   unfolding d
-  below = back-below r s hr hs
+  below = remainder-below r s hr hs
 
   above : r < s → d ≡ r + M - s
   unfolding d
-  above = back-above r s hr hs
+  above = remainder-above r s hr hs
 
   normal-next : row1 r s || row2 r s ≡ true → d ≡ M - 1
   normal-next e = ⊎-elim
@@ -137,14 +138,20 @@ module _ (n1 r s : ℕ) (hr : OnRing r) (hs : OnRing s) (low : 1 ≤ n1) (high :
   rows-apart = not-both (row1 r s || row2 r s) (row3 n1 r s || row4 n1 r s)
       (λ e f. omega (arith, normal-next e, twice-repeat f))
 
-  pub rule4-is-table14 : result (rule4 n1 r s) ≡ table14 n1 r s
-  unfolding rule4 table14 d
-  rule4-is-table14 = ⊎-elim
-      (λ (h : back r s < n1).
-      let x : eqb (back r s) (M - 1) ≡ false = ne-eqb (back r s) (M - 1) (λ e. omega arith) in
-      simp (normal-is, duplicated-is, lt-ltb (back r s) n1 h, x))
-      (λ (h : n1 ≤ back r s). ⊎-elim
-      (λ (e : back r s ≡ M - 1). simp (normal-is, duplicated-is, le-ltb (back r s) n1 h, eq-eqb (back r s) (M - 1) e))
-      (λ (e : back r s ≢ M - 1). simp (normal-is, duplicated-is, le-ltb (back r s) n1 h, ne-eqb (back r s) (M - 1) e))
-      (eq-or-ne (back r s) (M - 1)))
-      (lt-or-le (back r s) n1)
+  -- Rule 4's tests, whatever is said of a gap.
+  tests-are : (k : ℕ) → result (cond (ltb d n1) Repeat (cond (eqb d (M - 1)) Next (Gap k))) ≡ table14 n1 r s
+  unfolding table14
+  tests-are k = ⊎-elim
+      (λ (h : d < n1).
+      let x : eqb d (M - 1) ≡ false = ne-eqb d (M - 1) (λ e. omega arith) in
+      simp (normal-is, duplicated-is, lt-ltb d n1 h, x))
+      (λ (h : n1 ≤ d). ⊎-elim
+      (λ (e : d ≡ M - 1). simp (normal-is, duplicated-is, le-ltb d n1 h, eq-eqb d (M - 1) e))
+      (λ (e : d ≢ M - 1). simp (normal-is, duplicated-is, le-ltb d n1 h, ne-eqb d (M - 1) e))
+      (eq-or-ne d (M - 1)))
+      (lt-or-le d n1)
+
+pub rule4-is-table14 : (n1 : ℕ) (r s : Number) → OnRing (r .0) → OnRing (s .0) → 1 ≤ n1 → n1 ≤ 1024
+    → result (rule4 n1 r s) ≡ table14 n1 (r .0) (s .0)
+unfolding rule4 d
+rule4-is-table14 n1 r s hr hs low high = tests-are n1 (r .0) (s .0) hr hs low high (skipped r s)

@@ -40,21 +40,21 @@ impl Number {
 
 // How far back s lies behind r, 0 to M - 1.
 pub fn back(r: Number, s: Number) -> u32
-    ensures { λ d. ⌜ d ≡ backOf (r .0) (s .0) ⌝ }
+    ensures { λ d. ⌜ d ≡ backOf r s ⌝ }
 {
     (r.0 % M + (M - s.0 % M)) % M
 }
 
 // Whether a is newer than b.
 pub fn newer(a: Number, b: Number) -> bool
-    ensures { λ x. ⌜ x ≡ isNewer (a .0) (b .0) ⌝ }
+    ensures { λ x. ⌜ x ≡ isNewer a b ⌝ }
 {
     b.0 < a.0
 }
 
 // What the last delivered version rv and number r make of a message with version v and number s.
 pub fn number_check(n1: u16, rv: Version, r: Number, v: Version, s: Number) -> Verdict
-    ensures { λ x. ⌜ x ≡ check n1 (rv .0) (r .0) (v .0) (s .0) ⌝ }
+    ensures { λ x. ⌜ x ≡ check n1 rv r v s ⌝ }
 {
     if (v.0 == 0) & (s.0 == 1) {
         return Verdict::Unchecked;

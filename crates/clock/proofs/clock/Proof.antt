@@ -5,7 +5,7 @@ use native.Mathlib.Omega.{arith}
 use borrow.Author.Needs.{needs}
 use borrow.Author.Tests.{not-true, not-false}
 use Rattle.rules.specs.calls.Clock.{drops, dies, agedSenders, mapWhere, notTicked}
-use Rattle.rules.specs.calls.ClockLaws.{withSenders, map-again, map-below, state-more, ticked-is, clock-nine, clock-back, clock-on}
+use Rattle.rules.specs.calls.ClockLaws.{map-again, map-below, state-more, ticked-is, clock-nine, clock-back, clock-on}
 use Rattle.state.specs.State.{sendersMost, withSenders}
 use Rattle.state.specs.LimitsLaws.{valid-count}
 use Rattle.state.specs.declared.Receiver.{Receiver}

@@ -35,7 +35,7 @@ sameCut m h =
 
 -- What the number check says of the PDU.
 abbrev pub verdictOf : ℕ → Sender → Head → Verdict
-verdictOf n1 s h = check n1 (s .last .version .0) (s .last .number .0) (h .given .version .0) (h .given .number .0)
+verdictOf n1 s h = check n1 (s .last .version) (s .last .number) (h .given .version) (h .given .number)
 
 -- ---- the numbers
 
@@ -49,7 +49,7 @@ senderRows test n1 s h =
     -- "number check says repeat"
     ∷ row 17 (isRepeat (verdictOf n1 s h))
     -- "open message has the same version and a larger number"
-    ∷ row 18 (s .«open» && eqb (s .message .version .0) (h .given .version .0) && newer (s .message .number .0) (h .given .number .0))
+    ∷ row 18 (s .«open» && eqb (s .message .version .0) (h .given .version .0) && newer (s .message .number) (h .given .number))
     -- "same version and number, but TCD, n, TBN or u differ"
     ∷ row 19 (rejoins s h && not (sameCut (s .message) h))
     -- "piece already held (octets not compared)"

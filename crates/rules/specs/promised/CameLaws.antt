@@ -73,7 +73,7 @@ module _ (m : Sent) where
       })
       (λ f. ((f .numbered, f .from), ((f .version, f .number), ((f .code, f .mode), (f .cut, f .octets)))))
       (Dec·and (Dec·and (Dec·and (dec-le 1 c) (dec-le c (count m))) (dec-true (isFrom (m .address) p)))
-      (Dec·and (Dec·and (dec-eq (headOf p .given .version .0) (m .version)) (dec-eq (headOf p .given .number .0) (m .number)))
+      (Dec·and (Dec·and (dec-eq (headOf p .given .version .0) (m .version .0)) (dec-eq (headOf p .given .number .0) (m .number .0)))
       (Dec·and (Dec·and (dec-eq (headOf p .given .tcd) (m .code)) (dec-eq (headOf p .given .mode) (m .mode)))
       (Dec·and (dec-cut (headOf p .cut) (cutFor (length (m .octets)) (m .u) c)) (dec-octets (drop headerSize p) (piece (m .octets) (m .u) c))))))
 

@@ -27,8 +27,8 @@ use Rattle.rules.specs.pasts.View.{inOrder, isFrom}
 abbrev pub sentBy : Given → List ℕ → ℕ → Sent
 sentBy g octets u = record {
   address = record { field = g .field; node = g .node };
-  version = g .version .0;
-  number = g .number .0;
+  version = g .version;
+  number = g .number;
   code = g .tcd;
   mode = g .mode;
   octets = octets;

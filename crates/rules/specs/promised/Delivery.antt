@@ -8,6 +8,8 @@ use mathlib.Core.Bool.{Bool, true, false, not, _&&_}
 use mathlib.Core.List.{List, [], _∷_, List·Memᴰ}
 use lib.Dec.{eqb}
 use lib.ListN.{length, drop}
+use Rattle.ring.specs.declared.Number.{Number}
+use Rattle.ring.specs.declared.Version.{Version}
 use Rattle.ring.specs.declared.Verdict.{Verdict}
 use Rattle.ring.specs.Check.{check, isRepeat}
 use Rattle.ring.specs.Ring.{newer}
@@ -35,8 +37,8 @@ use Rattle.rules.specs.pasts.View.{isFrom}
 -- What is sent: from where, the header values that joining looks at, the octets, and the piece length of the cut.
 pub record Sent : Type 0 where
   pub address : Address
-  pub version : ℕ
-  pub number : ℕ
+  pub version : Version
+  pub number : Number
   pub code : ℕ
   pub mode : ℕ
   pub octets : List ℕ
@@ -54,8 +56,8 @@ Numbered m c = (1 ≤ c) × (c ≤ count m)
 pub record PieceOf (m : Sent) (c : ℕ) (packet : List ℕ) : Type 0 where
   pub numbered : Numbered m c
   pub from : isFrom (m .address) packet ≡ true
-  pub version : headOf packet .given .version .0 ≡ m .version
-  pub number : headOf packet .given .number .0 ≡ m .number
+  pub version : headOf packet .given .version .0 ≡ m .version .0
+  pub number : headOf packet .given .number .0 ≡ m .number .0
   pub code : headOf packet .given .tcd ≡ m .code
   pub mode : headOf packet .given .mode ≡ m .mode
   pub cut : headOf packet .cut ≡ cutFor (length (m .octets)) (m .u) c
@@ -77,11 +79,11 @@ Came m c (e ∷ es) = Brings m c e ⊎ Came m c es
 
 -- It is the sender's open message.
 unfoldable pub isOpen : Sent → Sender → Bool
-isOpen m s = s .«open» && eqb (s .message .version .0) (m .version) && eqb (s .message .number .0) (m .number)
+isOpen m s = s .«open» && eqb (s .message .version .0) (m .version .0) && eqb (s .message .number .0) (m .number .0)
 
 -- What the number check says of it.
 abbrev pub verdictFor : ℕ → Sent → Last → Verdict
-verdictFor n1 m l = check n1 (l .version .0) (l .number .0) (m .version) (m .number)
+verdictFor n1 m l = check n1 (l .version) (l .number) (m .version) (m .number)
 
 -- The message of the sender at place i, after a past that left w.
 pub record May (m : Sent) (i : ℕ) (past : List Event) (w : World) : Type 0 where
@@ -93,12 +95,12 @@ pub record May (m : Sent) (i : ℕ) (past : List Event) (w : World) : Type 0 whe
   pub unit-within : isUnit (m .u) ≡ true
   -- "no packet with this version and number came from this sender before,"
   pub unheard : (packet : List ℕ) → List·Memᴰ (message packet) past → isFrom (m .address) packet ≡ true
-      → headOf packet .given .version .0 ≡ m .version → headOf packet .given .number .0 ≢ m .number
+      → headOf packet .given .version .0 ≡ m .version .0 → headOf packet .given .number .0 ≢ m .number .0
   -- "the number check does not call it a repeat,"
   pub no-repeat : isRepeat (verdictFor (w .state .n1) m (senderAt (w .state) i .last)) ≡ false
   -- "no larger number of that version is open for the sender,"
-  pub none-larger : senderAt (w .state) i .«open» && eqb (senderAt (w .state) i .message .version .0) (m .version)
-      && newer (senderAt (w .state) i .message .number .0) (m .number) ≡ false
+  pub none-larger : senderAt (w .state) i .«open» && eqb (senderAt (w .state) i .message .version .0) (m .version .0)
+      && newer (senderAt (w .state) i .message .number) (m .number) ≡ false
   -- "the mode admits it,"
   pub admits : eqb (m .mode) 1 && not (w .state .test) ≡ false
 

@@ -38,11 +38,11 @@ use Rattle.rules.specs.promised.SafeLaws.{IfTaken, accepted-step, accept
 use Rattle.rules.specs.pasts.View.{View, joining, view, isFrom, sees, outcomeView, nextView, tickView, stepView}
 use Rattle.rules.specs.pasts.ViewLaws.{Registered, registered-step, registered-view, registered-number, registered-outcome, registered-after}
 
-open-facts : (m : Sent) (s : Sender) → isOpen m s ≡ true → (s .«open» ≡ true) × (s .message .version .0 ≡ m .version) × (s .message .number .0 ≡ m .number)
+open-facts : (m : Sent) (s : Sender) → isOpen m s ≡ true → (s .«open» ≡ true) × (s .message .version .0 ≡ m .version .0) × (s .message .number .0 ≡ m .number .0)
 unfolding isOpen
 open-facts m s e =
-    let version = eqb (s .message .version .0) (m .version) in
-    let number = eqb (s .message .number .0) (m .number) in
+    let version = eqb (s .message .version .0) (m .version .0) in
+    let number = eqb (s .message .number .0) (m .number .0) in
     let front = and-left (s .«open» && version) number e in
     (and-left (s .«open») version front, eqb-true _ _ (and-right (s .«open») version front), eqb-true _ _ (and-right (s .«open» && version) number e))
 
@@ -52,7 +52,7 @@ module _ (g : Settings) (m : Sent) (k : Cuttable m) (admits : eqb (m .mode) 1 &&
     (last : Last) (new : isRepeat (verdictFor (g .n1) m last) ≡ false) where
   -- A packet of the message's version and number that was accepted is one of its pieces.
   abbrev Own : List ℕ → Type 0
-  Own q = headOf q .given .version .0 ≡ m .version → headOf q .given .number .0 ≡ m .number → (c : ℕ) × PieceOf m c q
+  Own q = headOf q .given .version .0 ≡ m .version .0 → headOf q .given .number .0 ≡ m .number .0 → (c : ℕ) × PieceOf m c q
 
   -- The message on its way: which pieces came, and what was accepted for it.
   record OnItsWay (C : ℕ → Type 0) (w : World) : Type 0 where
@@ -209,7 +209,7 @@ module _ (g : Settings) (m : Sent) (k : Cuttable m) (admits : eqb (m .mode) 1 &&
     handed none rest = same-octets _ c p (partTo w p) is own-all
         (joined-part g (m .address) i w (o .registered) (o .packets) (o .inv) p (is .from) (verdictFor (g .n1) m last) (gave none rest))
 
-    arrives : Arrives m (verdictFor (g .n1) m last) es c (answerTo w p .outcome) (partTo w p) × (m .version ≢ 0 → Once m es (answerTo w p .outcome))
+    arrives : Arrives m (verdictFor (g .n1) m last) es c (answerTo w p .outcome) (partTo w p) × (m .version .0 ≢ 0 → Once m es (answerTo w p .outcome))
     arrives = (
       record {
         delivered = λ x. (gave (x .0) (x .1), handed (x .0) (x .1));
@@ -274,9 +274,9 @@ module _ (w₀ : World) (start : Start w₀) (past : List Event) (m : Sent) (i :
   inv₁ = inv-after (settingsFrom (w₀ .state)) (m .address) i w₀ registered₀ [] (start-inv w₀ start i here₀) past
 
   -- No packet of the past has the message's version and number.
-  unlike : (q : List ℕ) → List·Memᴰ q packets₁ → headOf q .given .version .0 ≡ m .version → headOf q .given .number .0 ≢ m .number
+  unlike : (q : List ℕ) → List·Memᴰ q packets₁ → headOf q .given .version .0 ≡ m .version .0 → headOf q .given .number .0 ≢ m .number .0
   unfolding packets₁
-  unlike = accepted-all (settingsFrom (w₀ .state)) (m .address) i (λ q. headOf q .given .version .0 ≡ m .version → headOf q .given .number .0 ≢ m .number) w₀ registered₀ []
+  unlike = accepted-all (settingsFrom (w₀ .state)) (m .address) i (λ q. headOf q .given .version .0 ≡ m .version .0 → headOf q .given .number .0 ≢ m .number .0) w₀ registered₀ []
       (λ q none. absurd (List·Memᴰ·not-nil none)) past (may .unheard)
 
   -- So it is not open: an open message holds a piece that was brought.
@@ -306,7 +306,7 @@ module _ (w₀ : World) (start : Start w₀) (past : List Event) (m : Sent) (i :
   -- The inner theorem: something else of that sender may come between, if it is refused.
   pub arrives-among : (es : List Event) → Between (ElseRefused m) m i w₁ es → (c : ℕ) (packet : List ℕ) → PieceOf m c packet
       → Arrives m (verdictFor (w₁ .state .n1) m (s₁ .last)) es c (answerTo (after w₁ es) packet .outcome) (partTo (after w₁ es) packet)
-      × (m .version ≢ 0 → Once m es (answerTo (after w₁ es) packet .outcome))
+      × (m .version .0 ≢ 0 → Once m es (answerTo (after w₁ es) packet .outcome))
   arrives-among es f c packet is =
       let one = n1-some (w₁ .state) (sound₁ .is-valid) in
       let then = way-after g₁ m cuttable (may .admits) one i (s₁ .last) (may .no-repeat) (λ d. ⊥) w₁ on-its-way es f in
@@ -318,5 +318,5 @@ module _ (w₀ : World) (start : Start w₀) (past : List Event) (m : Sent) (i :
   -- "then it is delivered once, octet for octet, at the arrival of the last missing piece."
   pub arrives-only : (es : List Event) → Between (OnlyPieces m) m i w₁ es → (c : ℕ) (packet : List ℕ) → PieceOf m c packet
       → Arrives m (verdictFor (w₁ .state .n1) m (s₁ .last)) es c (answerTo (after w₁ es) packet .outcome) (partTo (after w₁ es) packet)
-      × (m .version ≢ 0 → Once m es (answerTo (after w₁ es) packet .outcome))
+      × (m .version .0 ≢ 0 → Once m es (answerTo (after w₁ es) packet .outcome))
   arrives-only es f = arrives-among es (between-wider m i w₁ es f)

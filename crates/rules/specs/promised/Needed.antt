@@ -97,15 +97,15 @@ Holds length-within e = length (e .octets) ≤ mostOctets
 -- "and u the piece length, 256 to 1,396"
 Holds unit-within e = isUnit (e .u) ≡ true
 -- "If its version is not 0,"
-Holds version-not-0 e = sent e .version ≢ 0
+Holds version-not-0 e = sent e .version .0 ≢ 0
 -- "no packet with this version and number came from this sender before,"
 Holds unheard e = (p : List ℕ) → List·Memᴰ (message p) (e .past) → isFrom (sent e .address) p ≡ true
-    → headOf p .given .version .0 ≡ sent e .version → headOf p .given .number .0 ≢ sent e .number
+    → headOf p .given .version .0 ≡ sent e .version .0 → headOf p .given .number .0 ≢ sent e .number .0
 -- "the number check does not call it a repeat,"
 Holds no-repeat e = isRepeat (verdict e) ≡ false
 -- "no larger number of that version is open for the sender,"
 Holds none-larger e =
-    sender e .«open» && eqb (sender e .message .version .0) (sent e .version) && newer (sender e .message .number .0) (sent e .number) ≡ false
+    sender e .«open» && eqb (sender e .message .version .0) (sent e .version .0) && newer (sender e .message .number) (sent e .number) ≡ false
 -- "the mode admits it,"
 Holds admits e = eqb (sent e .mode) 1 && not (before e .state .test) ≡ false
 -- "nothing else of that sender comes between"
@@ -118,7 +118,7 @@ Holds kept e = Between NoneAsked (sent e) 0 (before e) (e .since)
 -- All that the theorem asks for, and the message is delivered.
 pub record Met (e : Example) : Type 0 where
   pub started : Start start
-  pub version : sent e .version ≢ 0
+  pub version : sent e .version .0 ≢ 0
   pub may : May (sent e) 0 (e .past) (before e)
   pub between : Between (OnlyPieces (sent e)) (sent e) 0 (before e) (e .since)
   pub is-piece : PieceOf (sent e) (e .piece) (packet e)

@@ -116,12 +116,12 @@ decide registered e =
     Dec·and (dec-le 1 (before e .state .count)) (dec-address (addressAt (before e .state .senders) 0) (sent e .address))
 decide length-within e = dec-le (length (e .octets)) mostOctets
 decide unit-within e = dec-true (isUnit (e .u))
-decide version-not-0 e = Dec·not (dec-eq (sent e .version) 0)
+decide version-not-0 e = Dec·not (dec-eq (sent e .version .0) 0)
 decide unheard e = dec-each _ (λ p. dec-if (dec-true (isFrom (sent e .address) p))
-    (dec-if (dec-eq (headOf p .given .version .0) (sent e .version)) (Dec·not (dec-eq (headOf p .given .number .0) (sent e .number))))) (e .past)
+    (dec-if (dec-eq (headOf p .given .version .0) (sent e .version .0)) (Dec·not (dec-eq (headOf p .given .number .0) (sent e .number .0))))) (e .past)
 decide no-repeat e = dec-false (isRepeat (verdict e))
 decide none-larger e = dec-false
-    (sender e .«open» && eqb (sender e .message .version .0) (sent e .version) && newer (sender e .message .number .0) (sent e .number))
+    (sender e .«open» && eqb (sender e .message .version .0) (sent e .version .0) && newer (sender e .message .number) (sent e .number))
 decide admits e = dec-false (eqb (sent e .mode) 1 && not (before e .state .test))
 decide only-pieces e = dec-each _ (λ p. dec-if (dec-true (isFrom (sent e .address) p)) (dec-some (sent e) p)) (e .since)
 decide kept e = dec-kept (sent e) (before e) (e .since)

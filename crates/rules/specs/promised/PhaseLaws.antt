@@ -12,7 +12,7 @@ use Rattle.octets.specs.Split.{eq-or-ne, true-or-false, never-both}
 use Rattle.ring.specs.declared.Verdict.the-variants.{Repeat}
 use Rattle.ring.specs.Check.{isRepeat, isUnchecked}
 use Rattle.ring.specs.CheckLaws.{is-checked, check-again}
-use Rattle.ring.specs.RingLaws.{not-newer}
+use Rattle.ring.specs.RingLaws.{not-newer, same-version, same-number}
 use Rattle.header.specs.declared.Head.{Head}
 use Rattle.header.specs.Head.{headOf}
 use Rattle.map.specs.Map.{bit, holds, pieceBit, fullMap}
@@ -41,7 +41,7 @@ pub record Unfinished (m : Sent) (last : Last) (C : ℕ → Type 0) (s : Sender)
 -- All came, and its number is the last, if its version is not 0.
 pub record Finished (m : Sent) (C : ℕ → Type 0) (s : Sender) : Type 0 where
   pub all : (d : ℕ) → Numbered m d → C d
-  pub last-is : m .version ≢ 0 → (s .last .version .0 ≡ m .version) × (s .last .number .0 ≡ m .number)
+  pub last-is : m .version .0 ≢ 0 → (s .last .version .0 ≡ m .version .0) × (s .last .number .0 ≡ m .number .0)
 
 abbrev pub Phase : Sent → Last → (ℕ → Type 0) → Sender → Type 0
 Phase m last C s = Unfinished m last C s ⊎ Finished m C s
@@ -139,19 +139,19 @@ module _ (g : Settings) (m : Sent) (k : Cuttable m) (admits : eqb (m .mode) 1 &&
       finishes : grown ≡ fullMap (count m) → Finished m With (closed s (lastBy (verdictOf (g .n1) s h) s h))
       finishes e = record { all = full-all e; last-is = λ some. rw (kept some) (is .version, is .number) }
         where
-          kept : m .version ≢ 0 → isUnchecked (verdictOf (g .n1) s h) ≡ false
-          kept some = is-checked (g .n1) (s .last .version .0) (s .last .number .0) (h .given .version .0) (h .given .number .0) (λ z. some (sym (is .version) ∙ z))
+          kept : m .version .0 ≢ 0 → isUnchecked (verdictOf (g .n1) s h) ≡ false
+          kept some = is-checked (g .n1) (s .last .version) (s .last .number) (h .given .version) (h .given .number) (λ z. some (sym (is .version) ∙ z))
 
       -- One of several.
       goes-on : grown ≢ fullMap (count m) → Unfinished m last With (opened s (messageOf (v .now) (mapAfter s h) h))
       unfolding isOpen
       goes-on ne =
           let after : mapAfter s h ≡ grown = map-is (g .test) (g .n1) m k admits s c p is in
-          let version = eq-eqb (h .given .version .0) (m .version) (is .version) in
-          let number = eq-eqb (h .given .number .0) (m .number) (is .number) in
+          let version = eq-eqb (h .given .version .0) (m .version .0) (is .version) in
+          let number = eq-eqb (h .given .number .0) (m .number .0) (is .number) in
           record {
             same-last = f .same-last;
-            none-larger = rw (version, is .number) (not-newer (m .number) (piece-on-ring m k c p is));
+            none-larger = rw (version, same-number (is .number)) (not-newer (m .number) (piece-on-ring m k c p is));
             kin = λ o. piece-kin m k c p is;
             room = rw (version, number, after) grown-room;
             missing = rw (version, number, after) ne;
@@ -203,10 +203,10 @@ module _ (g : Settings) (m : Sent) (k : Cuttable m) (admits : eqb (m .mode) 1 &&
   -- ---- once it was delivered
 
   module _ (f : Finished m C s) where
-    number-finished : 1 ≤ g .n1 → m .version ≢ 0 → numberOf g v p ≡ 17
+    number-finished : 1 ≤ g .n1 → m .version .0 ≢ 0 → numberOf g v p ≡ 17
     number-finished one some =
         let last-is = f .last-is some in
-        let again : verdictFor (g .n1) m (s .last) ≡ Repeat = rw (last-is .0, last-is .1) (check-again (g .n1) (m .version) (m .number) some one) in
+        let again : verdictFor (g .n1) m (s .last) ≡ Repeat = rw (same-version (last-is .0), same-number (last-is .1)) (check-again (g .n1) (m .version) (m .number) some one) in
         number-again (g .test) (g .n1) m k admits s c p is (rw again)
 
     finished-next : 1 ≤ g .n1 → Finished m With (nextView g v p .sender)
@@ -234,7 +234,7 @@ module _ (g : Settings) (m : Sent) (k : Cuttable m) (admits : eqb (m .mode) 1 &&
   phase-held (inl f) here d numbered missing = outcome-held f here
   phase-held (inr f) here d numbered missing = absurd (missing (f .all d numbered))
 
-  pub phase-once : 1 ≤ g .n1 → m .version ≢ 0 → Phase m last C s → ((d : ℕ) → Numbered m d → C d) → outcomeView g v p ≡ Refused 17
+  pub phase-once : 1 ≤ g .n1 → m .version .0 ≢ 0 → Phase m last C s → ((d : ℕ) → Numbered m d → C d) → outcomeView g v p ≡ Refused 17
   unfolding admission notAdmitted
   phase-once one some (inl f) all = absurd (some-missing f all)
   phase-once one some (inr f) all = rw (outcomeView, number-finished f one some)

@@ -13,7 +13,7 @@ use Rattle.octets.specs.Run.{run}
 use Rattle.octets.specs.Split.{lt-or-le, true-or-false, both, and-left, and-right}
 use Rattle.ring.specs.Check.{isRepeat}
 use Rattle.ring.specs.Ring.{OnRing, isNumber, newer}
-use Rattle.ring.specs.RingLaws.{on-ring}
+use Rattle.ring.specs.RingLaws.{on-ring, same-version, same-number}
 use Rattle.header.specs.declared.Cut.{Cut}
 use Rattle.header.specs.declared.Head.{Head}
 use Rattle.header.specs.Codes.{isUser, isMode, isPri}
@@ -45,8 +45,8 @@ pub record Cuttable (m : Sent) : Type 0 where
 -- What all of its pieces have alike.
 abbrev pub kinFor : Sent → Kin
 kinFor m = record {
-  version = m .version;
-  number = m .number;
+  version = m .version .0;
+  number = m .number .0;
   tcd = m .code;
   n = length (m .octets);
   tbn = count m;
@@ -103,13 +103,13 @@ module _ (m : Sent) (k : Cuttable m) where
         = ap ownLength (is .cut) ∙ cut-same n (m .u) c its .2 ∙ sym (length-piece (m .octets) (m .u) c its) ∙ ap length (sym (is .octets)) in
         take-all (ownLength (headOf p .cut)) (drop headerSize p) (omega (arith, own)) ∙ is .octets
 
-    pub piece-on-ring : OnRing (m .number)
+    pub piece-on-ring : OnRing (m .number .0)
     unfolding isFrom inOrder headWithin
     piece-on-ring =
         let h = headOf p in
         let ordered = and-left (inOrder p) _ (is .from) in
         let head = and-right (not (lengthWrong (length p) h)) (headWithin p h) ordered in
-        on-ring (m .number) (subst (λ (x : ℕ). isNumber x ≡ true) (is .number)
+        on-ring (m .number .0) (subst (λ (x : ℕ). isNumber x ≡ true) (is .number)
         (and-right (isFixed p && isPri (h .given .pri) && isMode (h .given .mode) && isUser (h .given .tcd)) (isNumber (h .given .number .0)) head))
 
 -- ---- a sender's record and the message
@@ -120,7 +120,7 @@ mapOf m s = cond (isOpen m s) (s .message .map) 0
 
 -- A larger number of its version is open.
 abbrev pub larger : Sent → Sender → Bool
-larger m s = s .«open» && eqb (s .message .version .0) (m .version) && newer (s .message .number .0) (m .number)
+larger m s = s .«open» && eqb (s .message .version .0) (m .version .0) && newer (s .message .number) (m .number)
 
 same-cut : (m : Message) (p : List ℕ) → kinIn m ≡ kinOf p → sameCut m (headOf p) ≡ true
 unfolding sameCut
@@ -144,7 +144,7 @@ module _ (test : Bool) (n1 : ℕ) (m : Sent) (k : Cuttable m) (admits : eqb (m .
   rejoins-is = rw (is .version, is .number)
 
   pub verdict-is : verdictOf n1 s h ≡ verdictFor n1 m (s .last)
-  verdict-is = rw (is .version, is .number)
+  verdict-is = rw (same-version (is .version), same-number (is .number))
 
   number-is : numberIn p ≡ c
   number-is = piece-number m k c p is
@@ -162,8 +162,8 @@ module _ (test : Bool) (n1 : ℕ) (m : Sent) (k : Cuttable m) (admits : eqb (m .
       → first (senderRows test n1 s h) ≡ cond (holds (mapOf m s) c) 20 0
   unfolding senderRows first
   number-new new none kin =
-      let late : s .«open» && eqb (s .message .version .0) (h .given .version .0) && newer (s .message .number .0) (h .given .number .0) ≡ false
-      = rw (is .version, is .number) none in
+      let late : s .«open» && eqb (s .message .version .0) (h .given .version .0) && newer (s .message .number) (h .given .number) ≡ false
+      = rw (is .version, same-number (is .number)) none in
       rw (fits-mode, piece-possible m k c p is, verdict-is, new, late, rejoins-is) (⊎-elim
       (λ (o : isOpen m s ≡ true).
       let same : sameCut (s .message) h ≡ true = same-cut (s .message) p (kin o ∙ sym (piece-kin m k c p is)) in
