@@ -137,6 +137,21 @@ fn each_clause_alone_is_answered_with_9() {
     assert_eq!(seen.into_keys().collect::<Vec<_>>(), clauses);
 }
 
+/// The same four calls on the mended state give 0 or 1: only the damage was wrong.
+#[test]
+fn the_same_calls_are_good_once_the_state_is_mended() {
+    let printed = lines(1, COUNT);
+    let mut mended = 0;
+    for (title, numbers) in numbers_under_titles(&printed) {
+        if title.starts_with("mended: ") {
+            let good = numbers.iter().take(4).all(|(_, number)| *number <= 1);
+            assert!(good, "{title}: {numbers:?}");
+            mended += 1;
+        }
+    }
+    assert!(mended >= CLAUSES.len());
+}
+
 #[test]
 fn nine_comes_before_every_other_number() {
     let printed = lines(1, COUNT);

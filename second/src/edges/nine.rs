@@ -2,10 +2,11 @@
 //! with another number. Titles name the clause, so that the lines under them can
 //! be held to it:
 //!
-//! - under "9 alone: CLAUSE" all lines of calls give 9; without the damage each
-//!   call would be answered with 0 or 1;
+//! - under "9 alone: CLAUSE" all lines of calls give 9;
 //! - under "9 and NUMBER: CLAUSE" stand two lines of the same call, NUMBER before
-//!   the damage and 9 after it.
+//!   the damage and 9 after it;
+//! - under "mended: CLAUSE" stand first the calls of "9 alone" once more, without
+//!   the damage, and give 0 or 1.
 
 use super::clauses::{Clause, CLAUSES};
 use super::library::Library;
@@ -25,16 +26,19 @@ pub fn damaged_states(library: &mut Library) {
         alone(library, clause, &busy);
         let number = library.dice.one_of(&OTHERS);
         together(library, clause, &busy, number);
-        library.past.title("mended");
+        library.past.title(&format!("mended: {}", clause.name));
+        good_calls(library, &busy);
     }
 }
 
-/// A sender that is alive and has an open message.
+/// A sender that is alive and has an open message, and good calls for it.
 struct Busy {
     at: usize,
     plan: Plan,
     held: usize,
     missing: usize,
+    signal: Vec<u8>,
+    now: u64,
 }
 
 /// At least two senders, one of which is heard and opens a message, ten numbers
@@ -50,7 +54,20 @@ fn make_busy(library: &mut Library) -> Busy {
         plan,
         held: pieces[0],
         missing: pieces[pieces.len() - 1],
+        signal: scenes::good_alive(library, at, 1, 60),
+        now: library.past.receiver.clock,
     }
+}
+
+/// Calls that are good but for the state; there is no storage of the right length
+/// for more than 16 senders.
+fn good_calls(library: &mut Library, busy: &Busy) {
+    let lent = library.storage().min(SENDERS_MOST * AREA);
+    let past = &mut library.past;
+    past.message_lent(lent, &busy.plan.pdu(busy.missing));
+    past.alive_call(&busy.signal);
+    past.clock(busy.now);
+    past.ask();
 }
 
 /// Damages the state, makes the calls, and mends it.
@@ -63,21 +80,13 @@ fn damaged(library: &mut Library, clause: &Clause, at: usize, calls: impl Fn(&mu
     library.past.damage_to(before);
 }
 
-/// Calls that are good but for the state. Where there are more than 16 senders
-/// there is no storage of the right length, and no place to show them all.
+/// The good calls on a damaged state, and the state, where it can be shown.
 fn alone(library: &mut Library, clause: &Clause, busy: &Busy) {
-    let signal = scenes::good_alive(library, busy.at, 1, 60);
-    let now = library.past.receiver.clock;
     library.past.title(&format!("9 alone: {}", clause.name));
     damaged(library, clause, busy.at, |library| {
-        let lent = library.storage().min(SENDERS_MOST * AREA);
-        let past = &mut library.past;
-        past.message_lent(lent, &busy.plan.pdu(busy.missing));
-        past.alive_call(&signal);
-        past.clock(now);
-        past.ask();
-        if past.receiver.senders.len() <= SENDERS_MOST {
-            past.show();
+        good_calls(library, busy);
+        if library.past.receiver.senders.len() <= SENDERS_MOST {
+            library.past.show();
         }
     });
 }
