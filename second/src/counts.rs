@@ -37,7 +37,7 @@ fn kinds_of(line: &str) -> Option<Vec<(char, u64)>> {
         }
         ("C", [answer, _, _]) => Some(vec![('C', *answer)]),
         ("A", [answer]) => Some(vec![('A', *answer)]),
-        ("Q", [answer, _, _, _]) => Some(vec![('Q', *answer)]),
+        ("Q", [answer, _, _, _, _]) => Some(vec![('Q', *answer)]),
         ("W", state) if state.len() == 5 => Some(Vec::new()),
         ("w", sender) if sender.len() == 17 => Some(Vec::new()),
         ("K", [answer, _, _, _]) => Some(vec![('K', *answer)]),
@@ -62,8 +62,8 @@ mod tests {
 
     #[test]
     fn counts_the_lines_of_the_edges() {
-        let lines = "# 1.1 A title: P 1\nP 1 4 0 10 2 0 0 7 9\nP 9 0 0 0 0 0 0 7 7\nQ 9 0 0 0\n\
-                     Q 0 1 0 2\nW 0 16 15000 0 1\nw 0 1 7 0 0 0 0 0 0 0 0 0 0 0 0 0 0\n";
+        let lines = "# 1.1 A title: P 1\nP 1 4 0 10 2 0 0 7 9\nP 9 0 0 0 0 0 0 7 7\nQ 9 0 0 0 0\n\
+                     Q 0 1 0 2 2\nW 0 16 15000 0 1\nw 0 1 7 0 0 0 0 0 0 0 0 0 0 0 0 0 0\n";
         let expected = "P 1 1\nP 9 1\nQ 0 1\nQ 9 1\nV 0 1\nV 4 1\n";
         assert_eq!(counts(lines).unwrap(), expected);
     }

@@ -229,6 +229,11 @@ pub fn bit(piece: u8) -> u64 {
     }
 }
 
+/// 01: "trailing ones give the lowest missing piece".
+pub fn lowest_missing(map: u64) -> u32 {
+    map.trailing_ones() + 1
+}
+
 /// The map with all of a message's pieces held.
 pub fn full_map(tbn: u8) -> u64 {
     (1..=tbn).fold(0, |map, piece| map | bit(piece))
@@ -339,6 +344,16 @@ mod tests {
         let mut receiver = busy();
         change(&mut receiver);
         within_limits(&receiver)
+    }
+
+    #[test]
+    fn trailing_ones_by_hand() {
+        let pieces = [(0, 1), (0b0101, 2), (0b0111, 4), (0b1110, 1)];
+        for (map, piece) in pieces {
+            assert_eq!(lowest_missing(map), piece, "{map}");
+        }
+        assert_eq!(lowest_missing(u64::MAX / 2), 64);
+        assert_eq!(lowest_missing(u64::MAX), 65);
     }
 
     #[test]

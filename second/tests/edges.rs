@@ -241,18 +241,18 @@ fn four_pieces() {
         "5.1 Four pieces",
         "\
 P 0 0 1 0 0 0 0
-Q 0 1 0 2
+Q 0 1 0 2 2
 P 0 0 2 0 0 0 0
 P 0 0 3 0 0 0 0
-Q 0 1 0 4
+Q 0 1 0 4 4
 P 1 1 0 4500 0 0 0
-Q 0 0 0 0
+Q 0 0 0 0 0
 P 17 0 0 0 0 0 0
 P 0 0 1 0 0 0 0
 P 20 0 0 0 0 0 0
 P 0 0 2 0 0 0 0
 P 0 0 3 0 0 0 0
-Q 0 1 0 1
+Q 0 1 0 1 1
 P 20 0 0 0 0 0 0
 P 1 2 0 4500 0 0 0",
     );
@@ -265,17 +265,17 @@ fn twelve_pieces_and_sixty_four() {
     for k in 1..=5 {
         twelve.push(format!("P 0 0 {} 0 0 0 0", 2 * k - 1));
         twelve.push(format!("P 0 0 {} 0 0 0 0", 2 * k));
-        twelve.push(format!("Q 0 1 0 {}", k + 1));
+        twelve.push(format!("Q 0 1 0 {} {}", k + 1, k + 1));
     }
     twelve.push("P 0 0 11 0 0 0 0".into());
     twelve.push("P 1 1 0 16384 0 0 0".into());
-    twelve.push("Q 0 0 0 0".into());
+    twelve.push("Q 0 0 0 0 0".into());
     expect("5.2 Twelve pieces", &twelve.join("\n"));
     let mut most: Vec<String> = (1..=63)
         .map(|held| format!("P 0 0 {held} 0 0 0 0"))
         .collect();
     most.push("P 1 1 0 16384 0 0 0".into());
-    most.push("Q 0 0 0 0".into());
+    most.push("Q 0 0 0 0 0".into());
     expect("5.3 Sixty-four pieces", &most.join("\n"));
 }
 
@@ -285,13 +285,13 @@ fn two_senders() {
         "5.4 Two senders",
         "\
 P 0 0 1 0 0 0 0
-Q 0 1 1 1
+Q 0 1 1 1 1
 P 0 0 1 0 0 0 0
-Q 0 1 0 2
+Q 0 1 0 2 2
 P 0 0 2 0 0 0 0
 P 0 0 2 0 0 0 0
 P 1 1 0 600 0 0 0
-Q 0 1 1 2
+Q 0 1 1 2 2
 P 1 1 0 600 0 0 0",
     );
 }
@@ -304,12 +304,12 @@ fn drops() {
         "\
 P 0 0 1 0 0 0 0
 P 0 0 1 0 0 5 100
-Q 0 1 0 2
+Q 0 1 0 2 2
 P 18 0 0 0 0 0 0
 P 0 0 1 0 0 5 101
 P 0 0 1 0 0 6 50
 P 1 1 0 10 0 5 101
-Q 0 0 0 0
+Q 0 0 0 0 0
 P 0 0 1 0 0 0 0
 P 17 0 0 0 0 0 0
 P 18 0 0 0 0 0 0
@@ -400,12 +400,12 @@ w 0 1 7 0 0 1 5 100 1 4500 4 1332 3 8000 0 0 0
 w 1 2 9 0 0 1 5 100 1 300 2 256 1 9000 0 0 0
 C 0 0 0
 C 0 1 0
-Q 0 1 1 2
+Q 0 1 1 2 2
 P 0 0 1 0 0 0 0
 C 0 2 0
 C 0 0 0
 C 0 1 0
-Q 0 0 0 0
+Q 0 0 0 0 0
 P 0 0 1 0 0 0 0
 P 0 0 1 0 0 0 0
 C 0 3 0",
@@ -494,20 +494,20 @@ w 1 2 9 0 0 0 0 0 0 0 0 0 0 0 0 0 0",
     );
     expect(
         "7.5 Alive at the empty state",
-        "S 10\nA 14\nA 13\nA 12\nC 0 0 0\nQ 0 0 0 0\nW 0 1 1 1000 0",
+        "S 10\nA 14\nA 13\nA 12\nC 0 0 0\nQ 0 0 0 0 0\nW 0 1 1 1000 0",
     );
 }
 
 /// What the four calls answer on a damaged state.
-const REFUSED: [&str; 4] = ["P 9 0 0 0 0 0 0", "A 9", "C 9 0 0", "Q 9 0 0 0"];
+const REFUSED: [&str; 4] = ["P 9 0 0 0 0 0 0", "A 9", "C 9 0 0", "Q 9 0 0 0 0"];
 /// Piece 2 is held, piece 1 joins it, piece 3 is missing.
-const PASSES: [&str; 4] = ["P 0 0 2 0 0 0 0", "A 0", "C 0 0 0", "Q 0 1 0 3"];
+const PASSES: [&str; 4] = ["P 0 0 2 0 0 0 0", "A 0", "C 0 0 0", "Q 0 1 0 3 3"];
 /// The state passes; the PDU's n differs from the open message's.
-const UNLIKE: [&str; 4] = ["P 19 0 0 0 0 0 0", "A 0", "C 0 0 0", "Q 0 1 0 1"];
+const UNLIKE: [&str; 4] = ["P 19 0 0 0 0 0 0", "A 0", "C 0 0 0", "Q 0 1 0 1 1"];
 /// Nothing was open: piece 1 opens, piece 2 is missing.
-const OPENS: [&str; 4] = ["P 0 0 1 0 0 0 0", "A 0", "C 0 0 0", "Q 0 1 0 2"];
+const OPENS: [&str; 4] = ["P 0 0 1 0 0 0 0", "A 0", "C 0 0 0", "Q 0 1 0 2 2"];
 /// The empty state: nobody is registered.
-const NOBODY: [&str; 4] = ["P 14 0 0 0 0 0 0", "A 14", "C 0 0 0", "Q 0 0 0 0"];
+const NOBODY: [&str; 4] = ["P 14 0 0 0 0 0 0", "A 14", "C 0 0 0", "Q 0 0 0 0 0"];
 
 /// The rows of the section, from 1, that are not refused with 9.
 fn expect_rows(title: &str, count: usize, passing: &[(usize, [&str; 4])]) {
@@ -578,7 +578,7 @@ fn what_is_written_over_junk() {
         junk_row("A 0", 1_000, ["0 0", &junk, "1 1000 60"], "0 0"),
         junk_row("A 0", 1_000, ["0 0", &junk, "0 0 0"], "0 0"),
         junk_row("C 0 0 0", 1_001, still, "0 0"),
-        junk_row("Q 0 0 0 0", 1_000, still, "0 0"),
+        junk_row("Q 0 0 0 0 0", 1_000, still, "0 0"),
     ];
     assert_eq!(answers("8.5 What is written over it"), rows.concat());
 }
@@ -588,12 +588,12 @@ fn what_is_written_over_junk() {
 fn sixteen_senders() {
     let mut expected = vec!["S 0".to_string()];
     expected.extend((0..16).map(|_| "P 0 0 1 0 0 0 0".into()));
-    expected.push("Q 0 1 0 1".into());
+    expected.push("Q 0 1 0 1 1".into());
     expected.extend((0..16).map(|_| "P 1 1 0 300 0 0 0".into()));
-    expected.push("Q 0 0 0 0".into());
+    expected.push("Q 0 0 0 0 0".into());
     expected.extend((0..16).map(|_| "A 0".into()));
     expected.push("P 0 0 1 0 0 0 0".into());
-    expected.push("Q 0 1 15 1".into());
+    expected.push("Q 0 1 15 1 1".into());
     expected.push("C 0 0 255".into());
     expected.push("W 0 16 15000 7000 16".into());
     expected.extend((0..16).map(sender_after_7_seconds));
@@ -868,7 +868,7 @@ fn lines_with_senders(c: usize) -> Vec<String> {
     expected.extend(["S 0", "P 0 0 1 0 0 0 0", "P 14 0 0 0 0 0 0"].map(String::from));
     let storage = if c < 16 { 2 } else { 1 };
     expected.extend((0..storage).map(|_| "P 11 0 0 0 0 0 0".into()));
-    expected.push(format!("Q 0 1 {} 1", c - 1));
+    expected.push(format!("Q 0 1 {} 1 1", c - 1));
     expected.extend(["A 0", "C 0 0 0", "P 1 1 0 300 0 0 0", "P 0 0 1 0 0 0 0"].map(String::from));
     expected.push(format!("C 0 0 {map}"));
     expected.push(format!("C 0 {map} 0"));

@@ -8,10 +8,10 @@ use answers::Setup;
 use edges_calls::cut_call;
 use edges_calls::field_call;
 use edges_calls::part_call;
+use edges_calls::question_call;
 use edges_lines::calls::call_line;
 use edges_lines::calls::clock_line;
 use edges_lines::calls::message_line;
-use edges_lines::calls::question_line;
 use edges_lines::record::state_lines;
 use edges_lines::sum;
 use edges_lines::title;
@@ -22,7 +22,6 @@ use octets::read1;
 use octets::read2;
 use octets::read4;
 use octets::read8;
-use question::question;
 use receiver::message::message;
 use receiver::part::part;
 use setup::setup;
@@ -65,7 +64,7 @@ pub(crate) fn look<'a>(w: Receiver, storage: &'a [u8], field: &'a [u8]) {
     let tag = read1(field, 0);
     match tag {
         b'#' => title(from(field, HEAD)),
-        b'Q' => question_line(tag, question(w)),
+        b'Q' => question_call(w),
         b'W' => state_lines(w),
         b'K' => cut_call(from(field, HEAD)),
         b'R' => part_call(storage, from(field, HEAD)),

@@ -1,4 +1,5 @@
-// The calls of docs/EDGES.md that know no state, each with its lines: the cutter, the part that is handed over, the next field.
+// The calls of docs/EDGES.md that leave the state as it is, each with its lines: the question, the cutter, the part that is handed
+// over, the next field.
 //
 // No contract can say what is written, so these functions have none: they answer nothing, and nothing is lent to them to write.
 use answers::Where;
@@ -6,6 +7,7 @@ use capture_fields::Kind;
 use capture_fields::Next;
 use capture_fields::next_field;
 use cut::cutter::cutter;
+use edges_lines::calls::question_line;
 use edges_lines::line;
 use edges_lines::octets_line;
 use edges_lines::sum;
@@ -17,9 +19,17 @@ use octets::read1;
 use octets::read2;
 use octets::read4;
 use octets::read8;
+use question::question;
 use receiver::part::part;
 use ring::Number;
 use ring::Version;
+use state::Receiver;
+
+// ---- the question
+
+pub fn question_call(w: Receiver) {
+    question_line(question(w), w);
+}
 
 // ---- the cutter
 

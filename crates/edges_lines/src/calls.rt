@@ -4,6 +4,8 @@ use answers::Call;
 use answers::Dropped;
 use answers::Missing;
 use answers::Outcome;
+use map::lowest_missing;
+use state::Receiver;
 
 // "the small one makes the same call and prints nothing"
 fn told(tag: u8, numbers: &[u64]) {
@@ -27,19 +29,31 @@ fn call_number(call: Call) -> u64 {
     }
 }
 
-pub fn question_line(tag: u8, missing: Missing) {
+// Of the state that was asked.
+pub fn question_line(missing: Missing, w: Receiver) {
     match missing {
-        Missing::Refused(number) => question_numbers(tag, number, 0, 0, 0),
-        Missing::NoneOpen => question_numbers(tag, 0, 0, 0, 0),
-        Missing::Piece { sender, piece } => question_numbers(tag, 0, 1, sender, piece),
+        Missing::Refused(number) => line(b'Q', &[number as u64, 0, 0, 0, 0]),
+        Missing::NoneOpen => line(b'Q', &[0, 0, 0, 0, 0]),
+        Missing::Piece { sender, piece } => piece_line(sender, piece, map_at(w, sender)),
     }
 }
 
-fn question_numbers(tag: u8, number: u8, open: u8, place: u8, piece: u8) {
-    told(
-        tag,
-        &[number as u64, open as u64, place as u64, piece as u64],
-    );
+// 01: "trailing ones give the lowest missing piece". They are asked beside the question's loops, and both are printed.
+fn piece_line(place: u8, piece: u8, map: u64) {
+    let by_ones = lowest_missing(map);
+    line(b'Q', &[0, 1, place as u64, piece as u64, by_ones as u64]);
+}
+
+// The map of the sender at a place.
+fn map_at(w: Receiver, place: u8) -> u64 {
+    let at = place as usize;
+    if at < Receiver::PLACES {
+        let s = w.senders[at];
+        let m = s.message;
+        m.map
+    } else {
+        0
+    }
 }
 
 // What is counted are the part's length and sum, and the storage's sum.

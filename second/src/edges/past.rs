@@ -7,7 +7,7 @@ use crate::alive::alive;
 use crate::clock::clock;
 use crate::fields::field;
 use crate::receiver::{message, part, question, Answer};
-use crate::state::{setup, Receiver, Sender, Setup, AREA, SENDERS_MOST};
+use crate::state::{lowest_missing, setup, Receiver, Sender, Setup, AREA, SENDERS_MOST};
 
 /// 01: "A past is a setup, storage of its right length with any octets in it,
 /// and then calls, each given the state and storage that the one before left."
@@ -196,12 +196,15 @@ impl Past {
         self.made('C', &ms.to_be_bytes(), &line);
     }
 
-    /// "Q number open place piece": "otherwise 0 0 0, also on a refusal".
+    /// "Q number open place piece by-ones": "otherwise 0 0 0 0, also on a refusal".
     pub fn ask(&mut self) {
         let line = match question(&self.receiver) {
-            Answer::Refused(number) => format!("Q {number} 0 0 0"),
-            Answer::NoneOpen => "Q 0 0 0 0".into(),
-            Answer::Missing { sender, piece } => format!("Q 0 1 {sender} {piece}"),
+            Answer::Refused(number) => format!("Q {number} 0 0 0 0"),
+            Answer::NoneOpen => "Q 0 0 0 0 0".into(),
+            Answer::Missing { sender, piece } => {
+                let by_ones = lowest_missing(self.receiver.senders[sender].message.map);
+                format!("Q 0 1 {sender} {piece} {by_ones}")
+            }
         };
         self.made('Q', &[], &line);
     }

@@ -120,9 +120,13 @@ impl Replay {
 
     fn ask(&self) -> String {
         match question(&self.state) {
-            Answer::Refused(number) => format!("Q {number} 0 0 0"),
-            Answer::NoneOpen => "Q 0 0 0 0".into(),
-            Answer::Missing { sender, piece } => format!("Q 0 1 {sender} {piece}"),
+            Answer::Refused(number) => format!("Q {number} 0 0 0 0"),
+            Answer::NoneOpen => "Q 0 0 0 0 0".into(),
+            Answer::Missing { sender, piece } => {
+                let map = self.state.senders[sender].message.map;
+                let by_ones = (1..).find(|c| map >> (c - 1) & 1 == 0).unwrap();
+                format!("Q 0 1 {sender} {piece} {by_ones}")
+            }
         }
     }
 
