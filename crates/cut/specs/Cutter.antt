@@ -1,5 +1,5 @@
 -- The cutter: "writes one PDU by its number. Octets behind it in the buffer stay."
-use Prim.Native.Nat.{ℕ, _+_}
+use Prim.Native.Nat.{ℕ, _+_, _^_, _<_}
 use mathlib.Core.Bool.{Bool, cond, _&&_}
 use mathlib.Core.List.{List, _++_}
 use lib.Dec.{leb}
@@ -24,6 +24,12 @@ cutFor n u c = record { ml = n + headerSize; bsize = pieceLength n u c + headerS
 -- "5.1's other fields are given by the caller, the same for every piece of a message."
 abbrev pub headFor : Given → List ℕ → ℕ → ℕ → Head
 headFor g m u c = record { given = g; cut = cutFor (length m) u c }
+
+-- "V_SEQ is any 32-bit number": the given numbers that 01 leaves free are 32-bit words, as their types say.
+pub record Words (g : Given) : Type 0 where
+  pub da-fits : g .da < 2 ^ 32
+  pub version-fits : g .version .0 < 2 ^ 32
+  pub mctl-fits : g .mctl < 2 ^ 32
 
 -- The PDU of piece c: its header, and behind it the piece.
 unfoldable pub pdu : Given → List ℕ → ℕ → ℕ → List ℕ

@@ -20,14 +20,8 @@ use Rattle.header.specs.HeadLaws.{Fits, read-back, written-fixed, length-header
 use Rattle.header.specs.Places.{Field, place, headerSize}
 use Rattle.header.specs.Places.Field.{hType, ml, domain, dataField, node, da, vSeq, seq, mCtl, inqId, tcd, ver, gtid, mode, pver, pri, cbn, tbn, bsize, fui}
 use Rattle.cut.specs.Pieces.{pieceLength, piece}
-use Rattle.cut.specs.Cutter.{headFor, pdu, givenWithin, pieceWithin, limitsWithin, cuts}
+use Rattle.cut.specs.Cutter.{Words, headFor, pdu, givenWithin, pieceWithin, limitsWithin, cuts}
 use Rattle.cut.specs.CutterLaws.{Within, within-facts, within-short, within-count, length-piece}
-
--- The given numbers that 01 leaves free are 32-bit words, as their types say.
-pub record Words (g : Given) : Type 0 where
-  pub da-fits : g .da < 2 ^ 32
-  pub version-fits : g .version .0 < 2 ^ 32
-  pub mctl-fits : g .mctl < 2 ^ 32
 
 -- The header values within their limits.
 pub record GivenWithin (g : Given) : Type 0 where

@@ -20,16 +20,16 @@ use Rattle.header.specs.declared.Given.{Given}
 use Rattle.header.specs.Places.{headerSize}
 use Rattle.cut.specs.declared.cutter.Cutting.{Cutting}
 use Rattle.cut.specs.declared.cutter.Cutting.the-variants as cutting
-use Rattle.cut.specs.Cutter.{cuts, cutterAnswer, cutterBuffer, cuttingLength, pdu}
+use Rattle.cut.specs.Cutter.{Words, cuts, cutterAnswer, cutterBuffer, cuttingLength, pdu}
 use Rattle.cut.specs.CutterLaws.{Within, length-pdu}
 use Rattle.cut.specs.Pieces.{leastUnit, mostUnit, pieceLength}
 use Rattle.cut.specs.Possible.{isUnit}
-use Rattle.cut.specs.ReadLaws.{Words, cuts-within, cuts-room}
+use Rattle.cut.specs.ReadLaws.{cuts-within, cuts-room}
 use Rattle.state.specs.declared.Sender.{Sender}
 use Rattle.state.specs.State.{noLast}
 use Rattle.answers.specs.declared.Outcome.the-variants as outcome
-use Rattle.rules.specs.promised.CutPiecesLaws.{sentBy, cuts-piece}
-use Rattle.rules.specs.promised.Delivery.{Sent, PieceOf, Came, May, Between, OnlyPieces, verdictFor}
+use Rattle.rules.specs.promised.CutPiecesLaws.{cuts-piece}
+use Rattle.rules.specs.promised.Delivery.{sentBy, Sent, PieceOf, Came, May, Between, OnlyPieces, verdictFor}
 use Rattle.rules.specs.pasts.Past.{World, Event, message, step, after}
 use Rattle.rules.specs.pasts.PastLaws.{start-sender}
 use Rattle.rules.specs.promised.PieceLaws.{Cuttable, piece-number}

@@ -15,9 +15,8 @@ use Rattle.header.specs.declared.Given.{Given}
 use Rattle.header.specs.Head.{headOf}
 use Rattle.cut.specs.declared.cutter.Cutting.{Cutting}
 use Rattle.cut.specs.declared.cutter.Cutting.the-variants as cutting
-use Rattle.cut.specs.Cutter.{cuts}
+use Rattle.cut.specs.Cutter.{Words, cuts}
 use Rattle.cut.specs.Edges.{all, edges}
-use Rattle.cut.specs.ReadLaws.{Words}
 use Rattle.state.specs.Limits.{addressAt}
 use Rattle.state.specs.State.{noLast, senderAt, emptyReceiver}
 use Rattle.state.specs.Table.{source}
@@ -30,10 +29,9 @@ use Rattle.rules.specs.promised.Accepted.{acceptedWith, acceptedIn}
 use Rattle.rules.specs.calls.Alive.{aliveRows}
 use Rattle.rules.specs.promised.AlivePast.{AliveBy}
 use Rattle.rules.specs.calls.Clock.{clockRows}
-use Rattle.rules.specs.promised.CutPiecesLaws.{sentBy}
-use Rattle.rules.specs.promised.Delivery.{Sent, Numbered, PieceOf, May, Between, OnlyPieces, verdictFor, OneApplies, Arrives, Once}
+use Rattle.rules.specs.promised.Delivery.{Sent, sentBy, Numbered, PieceOf, May, Between, OnlyPieces, verdictFor, OneApplies, Arrives, Once}
 use Rattle.rules.specs.calls.First.{Row, row}
-use Rattle.rules.specs.calls.FirstLaws as rows
+use Rattle.rules.specs.calls.First as rows
 use Rattle.rules.specs.promised.Join.{Joined}
 use Rattle.rules.specs.calls.Message.{messageRows}
 use Rattle.rules.specs.pasts.Past.{World, Event, message, alive, clock, aside, question, Said, Answers}

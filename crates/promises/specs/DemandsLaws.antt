@@ -36,8 +36,8 @@ use Rattle.rules.specs.calls.Clock.{notTicked}
 use Rattle.rules.specs.promised.Delivery.{May, Between, OnlyPieces, verdictFor, Arrives, Once}
 use Rattle.rules.specs.promised.DeliveryLaws.{arrives-only}
 use Rattle.rules.specs.calls.ExactlyLaws.{message-refuses, message-given, alive-refuses, alive-given, clock-refuses, clock-given, question-refuses, question-given, setup-refuses, setup-given}
-use Rattle.rules.specs.calls.First.{Row, row}
-use Rattle.rules.specs.calls.FirstLaws.{Given, above, given-above}
+use Rattle.rules.specs.calls.First.{Row, row, Given}
+use Rattle.rules.specs.calls.FirstLaws.{above, given-above}
 use Rattle.rules.specs.promised.Join.{Joined}
 use Rattle.rules.specs.calls.Message.{area, messageRows, refused}
 use Rattle.rules.specs.pasts.Past.{World, Event, message, alive, clock, aside, question, step, after, answerTo, partTo, Said, said, Answers}

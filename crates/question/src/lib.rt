@@ -1,7 +1,6 @@
 // The question: of the first sender in table order with an open message, which piece is its lowest missing one?
 ghost use mathlib.Core.Path.{_≡_};
-ghost use Rattle.rules.specs.calls.Question.{questionAnswer};
-ghost use Rattle.rules.specs.calls.QuestionLaws.{piecesOf};
+ghost use Rattle.rules.specs.calls.Question.{piecesOf, questionAnswer};
 use answers::Missing;
 use map::holds;
 use state::Receiver;

@@ -1,11 +1,15 @@
 -- The maintenance tally: "one record of the caller's, counted up where it stands: one count of answers 0 and 1, one of refusals, each stopping
 -- at 4,294,967,295."
 use Prim.Native.Nat.{ℕ, _+_, min}
+use mathlib.Core.Path.{_≡_}
 use mathlib.Core.Bool.{Bool, true, false, cond}
 use mathlib.Core.List.{List, [], _∷_}
 use lib.Dec.{leb}
+use lib.ListN.{length}
+use Rattle.state.specs.declared.Receiver.{Receiver}
 use Rattle.answers.specs.declared.Outcome.{Outcome}
 use Rattle.answers.specs.declared.Outcome.the-variants.{Refused, Stored, Delivered}
+use Rattle.rules.specs.calls.Message.{messageAnswer, messageStorage}
 use Rattle.tally.specs.declared.Tally.{Tally}
 
 -- "each stopping at 4,294,967,295"
@@ -31,6 +35,12 @@ counted t (Delivered v) = oneAnswer t
 -- The same by 01's numbers.
 abbrev pub countedBy : Tally → ℕ → Tally
 countedBy t n = cond (leb n 1) (oneAnswer t) (oneRefusal t)
+
+-- "A refusal changes neither the state nor one octet of lent memory, save a count of refusals"
+pub record SaveACount (t : Tally) (w : Receiver) (storage packet : List ℕ) : Type 0 where
+  pub same-state : messageAnswer w (length storage) packet .state ≡ w
+  pub same-storage : messageStorage w storage packet ≡ storage
+  pub one-refusal : counted t (messageAnswer w (length storage) packet .outcome) ≡ oneRefusal t
 
 -- ---- over many calls, first to last
 

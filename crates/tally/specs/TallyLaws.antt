@@ -14,7 +14,7 @@ use Rattle.rules.specs.calls.ExactlyLaws.{message-refuses, message-given}
 use Rattle.rules.specs.calls.FirstLaws.{above, given-above}
 use Rattle.rules.specs.calls.Message.{messageRows, refused, messageAnswer, messageStorage}
 use Rattle.tally.specs.declared.Tally.{Tally}
-use Rattle.tally.specs.Tally.{most, stopping, oneRefusal, counted, countedBy, tallied, answersAmong, refusalsAmong}
+use Rattle.tally.specs.Tally.{most, stopping, counted, SaveACount, countedBy, tallied, answersAmong, refusalsAmong}
 
 -- ---- one call
 
@@ -22,13 +22,7 @@ module _ (t : Tally) (w : Receiver) (storage packet : List ℕ) where
   abbrev answer : Answer
   answer = messageAnswer w (length storage) packet
 
-  -- "A refusal changes neither the state nor one octet of lent memory, save a count of refusals"
-  pub record SaveACount : Type 0 where
-    pub same-state : messageAnswer w (length storage) packet .state ≡ w
-    pub same-storage : messageStorage w storage packet ≡ storage
-    pub one-refusal : counted t (messageAnswer w (length storage) packet .outcome) ≡ oneRefusal t
-
-  pub save-a-count : (k : ℕ) → messageAnswer w (length storage) packet .outcome ≡ Refused k → SaveACount
+  pub save-a-count : (k : ℕ) → messageAnswer w (length storage) packet .outcome ≡ Refused k → SaveACount t w storage packet
   unfolding refused
   save-a-count k e =
       let r : (answer ≡ refused w k) × (messageStorage w storage packet ≡ storage) = message-refuses w storage packet k (message-given w storage packet k e) in

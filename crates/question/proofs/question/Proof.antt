@@ -9,10 +9,10 @@ use Rattle.answers.specs.declared.Missing.the-variants.{NoneOpen}
 use Rattle.map.specs.Map.{holds}
 use Rattle.state.specs.LimitsLaws.{valid-count}
 use Rattle.state.specs.WithinLaws.{valid-sender}
-use Rattle.rules.specs.calls.QuestionLaws.{all-held, question-none, question-piece, question-nine}
+use Rattle.rules.specs.calls.Question.{piecesOf}
+use Rattle.rules.specs.calls.QuestionLaws.{Held, all-held, question-none, question-piece, question-nine}
 use Rattle.state.specs.State.{sendersMost, senderAt}
 use borrow.Author.Needs.{needs}
-use Rattle.rules.specs.calls.QuestionLaws.{piecesOf, Held}
 use Rattle.question.proofs.question.Statement.{statement}
 use Rattle.question.proofs.question.Tie as tie
 

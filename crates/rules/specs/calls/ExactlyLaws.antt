@@ -23,8 +23,8 @@ use Rattle.answers.specs.declared.Started.{Started}
 use Rattle.rules.specs.calls.Admit.{senderRows, admitted, fills, refusedNumber}
 use Rattle.rules.specs.calls.Alive.{aliveRows, notNoted, aliveAnswer}
 use Rattle.rules.specs.calls.Clock.{clockRows, ticked, notTicked, clockAnswer}
-use Rattle.rules.specs.calls.First.{Row, first}
-use Rattle.rules.specs.calls.FirstLaws.{numbered, Given, given-first, first-given, given-some, above, rises}
+use Rattle.rules.specs.calls.First.{Row, first, Given}
+use Rattle.rules.specs.calls.FirstLaws.{numbered, given-first, first-given, given-some, above, rises}
 use Rattle.state.specs.Table.{found}
 use Rattle.rules.specs.calls.Message.{messageRows, taken, refused, messageAnswer, messageStorage}
 use Rattle.rules.specs.calls.Question.{questionRows, firstOpen, missingOf, missingNumber, questionAnswer}

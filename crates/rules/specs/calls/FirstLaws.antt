@@ -1,6 +1,6 @@
 -- Laws of "the first that applies". Assumes nothing.
 use mathlib.Core.Path.{_≡_, refl, sym, ap, _∙_}
-use mathlib.Core.Logic.{_≢_, _⊎_, inl, inr, ⊎-elim}
+use mathlib.Core.Logic.{_≢_, inl, inr, ⊎-elim}
 use mathlib.Core.Bool.{Bool, true, false, cond, _&&_}
 use mathlib.Core.List.{List, [], _∷_, _++_}
 use Prim.Native.Nat.{ℕ, _<_}
@@ -8,7 +8,7 @@ use native.Mathlib.Omega.{arith}
 use lib.Dec.{eqb, ltb}
 use borrow.Author.Tests.{ltb-true, ne-eqb, eqb-true, eqb-false}
 use Rattle.octets.specs.Split.{true-or-false, cond-case, and-left, and-right}
-use Rattle.rules.specs.calls.First.{Row, row, first}
+use Rattle.rules.specs.calls.First.{Row, row, first, Given}
 
 pub first-here : (k : ℕ) (b : Bool) (rs : List Row) → b ≡ true → first (row k b ∷ rs) ≡ k
 unfolding first
@@ -60,11 +60,6 @@ first-behind rs n qs ps same = rw (first-append rs qs n, first-append rs ps n) (
     by false e = refl
 
 -- ---- "given exactly when"
-
--- The number k is given: a row with it applies, and no row before that one does.
-unfoldable pub Given : List Row → ℕ → Type 0
-Given [] k = ⊥
-Given (r ∷ rs) k = ((r .applies ≡ true) × (r .number ≡ k)) ⊎ ((r .applies ≡ false) × Given rs k)
 
 pub given-first : (rs : List Row) (k : ℕ) → Given rs k → first rs ≡ k
 unfolding Given first

@@ -5,6 +5,7 @@ use mathlib.Core.Bool.{not, cond}
 use mathlib.Core.List.{List, [], _∷_}
 use lib.Dec.{eqb, ltb}
 use Rattle.map.specs.Map.{lowestMissing}
+use Rattle.state.specs.declared.Sender.{Sender}
 use Rattle.state.specs.declared.Receiver.{Receiver}
 use Rattle.answers.specs.declared.Missing.{Missing}
 use Rattle.answers.specs.declared.Missing.the-variants.{Refused, NoneOpen, Piece}
@@ -19,6 +20,10 @@ questionRows w = row 9 (not (valid w)) ∷ []
 -- "the first sender in table order with an open message"; the count where there is none.
 abbrev pub firstOpen : Receiver → ℕ
 firstOpen w = firstWhere (λ s. s .«open») (w .senders) (w .count)
+
+-- "with an open message": how many pieces of a sender there are to look for.
+abbrev pub piecesOf : Sender → ℕ
+piecesOf s = cond (s .«open») (s .message .tbn) 0
 
 -- "which piece is its lowest missing one?"
 abbrev pub missingOf : Receiver → ℕ → Missing

@@ -18,7 +18,7 @@ use Rattle.state.specs.declared.Receiver.{Receiver}
 use Rattle.answers.specs.declared.Missing.the-variants.{Refused, NoneOpen, Piece}
 use Rattle.rules.specs.calls.First.{first}
 use Rattle.state.specs.Limits.{valid}
-use Rattle.rules.specs.calls.Question.{firstOpen, questionAnswer}
+use Rattle.rules.specs.calls.Question.{firstOpen, piecesOf, questionAnswer}
 use Rattle.state.specs.State.{noSender, senderAt, firstWhere}
 use Rattle.state.specs.WithinLaws.{MessageWithin, message-facts, SenderWithin, valid-sender}
 
@@ -58,10 +58,6 @@ first-holds f l (suc k) h = by (firstWhere f l k) (ltb (firstWhere f l k) k) ref
     by i false e false g earlier q = absurd (omega arith)
 
 -- ---- the pieces of one sender
-
--- How many pieces there are to look for.
-abbrev pub piecesOf : Sender → ℕ
-piecesOf s = cond (s .«open») (s .message .tbn) 0
 
 -- The first k pieces are held.
 abbrev pub Held : Sender → ℕ → Type 0

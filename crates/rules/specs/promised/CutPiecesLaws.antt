@@ -15,25 +15,13 @@ use Rattle.header.specs.Codes.{isDataField, isNode, isUser, isMode, isPri}
 use Rattle.header.specs.Head.{header, headOf, isFixed}
 use Rattle.header.specs.HeadLaws.{length-header}
 use Rattle.header.specs.Places.{headerSize}
-use Rattle.cut.specs.Cutter.{headFor, pdu, givenWithin, pieceWithin, limitsWithin, cuts}
+use Rattle.cut.specs.Cutter.{Words, headFor, pdu, givenWithin, pieceWithin, limitsWithin, cuts}
 use Rattle.cut.specs.CutterLaws.{Within, within-short, length-pdu}
 use Rattle.cut.specs.Pieces.{pieceLength, piece}
-use Rattle.cut.specs.ReadLaws.{Words, cuts-within, pdu-head, pdu-fixed}
-use Rattle.rules.specs.promised.Delivery.{Sent, PieceOf}
+use Rattle.cut.specs.ReadLaws.{cuts-within, pdu-head, pdu-fixed}
+use Rattle.rules.specs.promised.Delivery.{sentBy, PieceOf}
 use Rattle.rules.specs.calls.Message.{lengthWrong, headWithin}
 use Rattle.rules.specs.pasts.View.{inOrder, isFrom}
-
--- What is sent where the cutter is given these header values, these octets and this piece length.
-abbrev pub sentBy : Given → List ℕ → ℕ → Sent
-sentBy g octets u = record {
-  address = record { field = g .field; node = g .node };
-  version = g .version;
-  number = g .number;
-  code = g .tcd;
-  mode = g .mode;
-  octets = octets;
-  u = u;
-}
 
 module _ (g : Given) (octets : List ℕ) (u c room : ℕ) (yes : cuts g octets u c room ≡ true) (words : Words g) where
   abbrev packet : List ℕ

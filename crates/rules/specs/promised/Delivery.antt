@@ -13,6 +13,7 @@ use Rattle.ring.specs.declared.Version.{Version}
 use Rattle.ring.specs.declared.Verdict.{Verdict}
 use Rattle.ring.specs.Check.{check, isRepeat}
 use Rattle.ring.specs.Ring.{newer}
+use Rattle.header.specs.declared.Given.{Given}
 use Rattle.header.specs.Head.{headOf}
 use Rattle.header.specs.Places.{headerSize}
 use Rattle.cut.specs.Cutter.{cutFor}
@@ -43,6 +44,18 @@ pub record Sent : Type 0 where
   pub mode : ℕ
   pub octets : List ℕ
   pub u : ℕ
+
+-- What is sent where the cutter is given these header values, these octets and this piece length.
+abbrev pub sentBy : Given → List ℕ → ℕ → Sent
+sentBy g octets u = record {
+  address = record { field = g .field; node = g .node };
+  version = g .version;
+  number = g .number;
+  code = g .tcd;
+  mode = g .mode;
+  octets = octets;
+  u = u;
+}
 
 abbrev pub count : Sent → ℕ
 count m = pieces (length (m .octets)) (m .u)

@@ -22,8 +22,7 @@ use Rattle.state.specs.State.{senderAt}
 use Rattle.answers.specs.declared.Outcome.{Outcome}
 use Rattle.answers.specs.declared.Outcome.the-variants.{Delivered}
 use Rattle.answers.specs.declared.Setup.{Setup}
-use Rattle.rules.specs.promised.CutPiecesLaws.{sentBy}
-use Rattle.rules.specs.promised.Delivery.{Sent, PieceOf, verdictFor, May, Between, OnlyPieces, Arrives, Once}
+use Rattle.rules.specs.promised.Delivery.{Sent, sentBy, PieceOf, verdictFor, May, Between, OnlyPieces, Arrives, Once}
 use Rattle.rules.specs.calls.Message.{area}
 use Rattle.rules.specs.pasts.Past.{World, Event, message, clock, aside, question, after, answerTo, partTo, Start}
 use Rattle.rules.specs.calls.Setup.{setupAnswer}
