@@ -88,7 +88,7 @@ fn is_bad(kind: Kind) -> bool
     }
 }
 
-// The contents of the field at the front, of this many octets; empty where they are not all there.
+// The contents of the field at the front, of this many octets; of a field that is cut, those that are there.
 pub fn contents(octets: &[u8], length: usize) -> &[u8]
     ensures { λ r. ⌜ now r ≡ contentsOf (now (octets .entry)) length ⌝ }
 {
