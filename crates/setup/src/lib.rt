@@ -3,7 +3,7 @@ ghost use mathlib.Core.Path.{_≡_};
 ghost use mathlib.Core.Bool.{true, cond};
 ghost use Prim.Native.Nat.{_≤_};
 ghost use Rattle.rules.specs.calls.Setup.{setupWithin, setupState, setupAnswer};
-ghost use Rattle.setup.specs.Settled.{settled as settledBy};
+ghost use Rattle.setup.specs.private.Settled.{settled as settledBy};
 ghost use Rattle.state.specs.State.{sendersMost, newSender, emptyReceiver};
 use answers::Call;
 use answers::Setup;

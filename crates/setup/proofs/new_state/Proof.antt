@@ -8,7 +8,8 @@ use lib.ListN.{length, length-set}
 use Rattle.octets.specs.Split.{mapped-length}
 use Rattle.state.specs.State.{sendersMost}
 use Rattle.rules.specs.calls.Setup.{newSenders}
-use Rattle.setup.specs.Settled.{settled, settled-few, seated, seated-none, seated-all}
+use Rattle.setup.specs.private.Settled.{seated}
+use Rattle.setup.specs.private.SettledLaws.{settled-few, seated-none, seated-all}
 use Rattle.setup.proofs.new_state.Statement.{statement}
 use Rattle.setup.proofs.new_state.Tie as tie
 

@@ -1,7 +1,7 @@
 -- The empty state, or its table under the settings. Assumes nothing.
 use borrow.Author.Needs.{needs}
 use borrow.Author.Tests.{not-true, not-false}
-use Rattle.setup.specs.Settled.{settled}
+use Rattle.setup.specs.private.Settled.{settled}
 use Rattle.setup.proofs.settled.Statement.{statement}
 use Rattle.setup.proofs.settled.Tie as tie
 

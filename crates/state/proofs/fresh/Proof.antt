@@ -3,7 +3,7 @@ use Prim.Native.Nat.{_≤_, _-_}
 use mathlib.Core.Path.{_≡_, refl}
 use native.Mathlib.Omega.{arith}
 use native.Mathlib.Numerals.{add-one}
-use Rattle.state.specs.Key.{newKey}
+use Rattle.state.specs.private.Key.{newKey}
 use borrow.Author.Needs.{needs}
 use Rattle.state.proofs.fresh.Statement.{statement}
 use Rattle.state.proofs.fresh.Tie as tie

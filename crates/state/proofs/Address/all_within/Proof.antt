@@ -8,7 +8,7 @@ use Rattle.octets.specs.Split.{mapped-length}
 use Rattle.state.specs.Limits.{given, addressesWithin}
 use Rattle.state.specs.State.{sendersMost}
 use Rattle.state.specs.LimitsLaws.{addresses-more, addresses-few}
-use Rattle.state.specs.KeyLaws.{Seen, seen-none, seen-more, new-seen}
+use Rattle.state.specs.private.KeyLaws.{Seen, seen-none, seen-more, new-seen}
 use Rattle.state.proofs.Address.all_within.Statement.{statement}
 use Rattle.state.proofs.Address.all_within.Tie as tie
 

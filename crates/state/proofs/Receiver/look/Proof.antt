@@ -8,7 +8,7 @@ use borrow.Author.Tests.{not-true, not-false}
 use lib.ListN.{length, length-set}
 use Rattle.state.specs.Limits.{sendersWithin, addressAt}
 use Rattle.state.specs.LimitsLaws.{senders-more, valid-few}
-use Rattle.state.specs.KeyLaws.{Seen, seen-none, seen-more, new-seen}
+use Rattle.state.specs.private.KeyLaws.{Seen, seen-none, seen-more, new-seen}
 use Rattle.state.specs.Table.{find}
 use Rattle.state.specs.TableLaws.{find-more, look-outside, passed-outside, passed-within}
 use Rattle.state.specs.State.{sendersMost, firstWhere}

@@ -12,11 +12,7 @@ use borrow.Author.Tests.{eqb-true, eq-eqb}
 use Rattle.octets.specs.Split.{eq-or-ne, same-test, both, and-left, and-right}
 use Rattle.state.specs.declared.Address.{Address}
 use Rattle.state.specs.Limits.{sameAddress, newAmong}
-use Rattle.state.specs.Key.{keyOf, newKey}
-
--- A node has two octets.
-abbrev pub Narrow : Address → Type 0
-Narrow a = a .node .0 < 65536
+use Rattle.state.specs.private.Key.{keyOf, Narrow, newKey}
 
 pub same-key : (a b : Address) → Narrow a → Narrow b → eqb (keyOf a) (keyOf b) ≡ sameAddress a b
 unfolding keyOf

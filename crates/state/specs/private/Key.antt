@@ -1,5 +1,5 @@
--- An address as one number, by which two are compared at once.
-use Prim.Native.Nat.{ℕ, zero, suc, _+_, _*_}
+-- For private functions' contracts alone, no public contract cites it: an address as one number, by which two are compared at once.
+use Prim.Native.Nat.{ℕ, zero, suc, _+_, _*_, _<_}
 use mathlib.Core.Bool.{Bool, true, not, _&&_}
 use mathlib.Core.List.{List}
 use lib.Dec.{eqb}
@@ -8,6 +8,10 @@ use Rattle.state.specs.declared.Address.{Address}
 
 unfoldable pub keyOf : Address → ℕ
 keyOf a = a .field .0 * 65536 + a .node .0
+
+-- A node has two octets.
+abbrev pub Narrow : Address → Type 0
+Narrow a = a .node .0 < 65536
 
 -- None of the first k numbers is this one.
 unfoldable pub newKey : List ℕ → ℕ → ℕ → Bool
