@@ -11,8 +11,8 @@ use state::Message;
 use state::Receiver;
 use state::Sender;
 
-pub fn clock(mut state: Receiver, now: u64) -> Ticked
-    ensures { λ r. ⌜ r ≡ clockAnswer state now ⌝ }
+pub fn clock(mut state: Receiver, ms: u64) -> Ticked
+    ensures { λ r. ⌜ r ≡ clockAnswer state ms ⌝ }
 {
     if !state.within() {
         return Ticked {
@@ -22,7 +22,7 @@ pub fn clock(mut state: Receiver, now: u64) -> Ticked
             state,
         };
     }
-    if (now < state.clock) | (Receiver::CLOCK_MOST < now) {
+    if (ms < state.clock) | (Receiver::CLOCK_MOST < ms) {
         return Ticked {
             call: Call::Refused(21),
             dropped: 0,
@@ -37,13 +37,13 @@ pub fn clock(mut state: Receiver, now: u64) -> Ticked
     let mut i: u8 = 0;
     while i < count {
         let s = state.senders[i as usize];
-        dropped = with_place(dropped, i, drops(s, t, now));
-        dead = with_place(dead, i, dies(s, now));
-        let next = aged(s, t, now);
+        dropped = with_place(dropped, i, drops(s, t, ms));
+        dead = with_place(dead, i, dies(s, ms));
+        let next = aged(s, t, ms);
         state.senders[i as usize] = next;
         i += 1;
     }
-    state.clock = now;
+    state.clock = ms;
     Ticked {
         call: Call::Done,
         dropped,
@@ -53,24 +53,24 @@ pub fn clock(mut state: Receiver, now: u64) -> Ticked
 }
 
 // Whether the open message is T or more old.
-fn drops(s: Sender, t: u32, now: u64) -> bool
-    ensures { λ r. ⌜ r ≡ dropsAt t now s ⌝ }
+fn drops(s: Sender, t: u32, ms: u64) -> bool
+    ensures { λ r. ⌜ r ≡ dropsAt t ms s ⌝ }
 {
-    s.open & (t as u64 <= since(s.message.stamp, now))
+    s.open & (t as u64 <= since(s.message.stamp, ms))
 }
 
 // Whether the alive sender is silent for al_tm_out seconds or more.
-fn dies(s: Sender, now: u64) -> bool
-    ensures { λ r. ⌜ r ≡ diesAt now s ⌝ }
+fn dies(s: Sender, ms: u64) -> bool
+    ensures { λ r. ⌜ r ≡ diesAt ms s ⌝ }
 {
-    s.alive & (1_000 * (s.heard.timeout as u64) <= since(s.heard.stamp, now))
+    s.alive & (1_000 * (s.heard.timeout as u64) <= since(s.heard.stamp, ms))
 }
 
 // How long ago a stamp is.
-fn since(stamp: u64, now: u64) -> u64
-    ensures { λ r. ⌜ r ≡ now - stamp ⌝ }
+fn since(stamp: u64, ms: u64) -> u64
+    ensures { λ r. ⌜ r ≡ ms - stamp ⌝ }
 {
-    if stamp <= now { now - stamp } else { 0 }
+    if stamp <= ms { ms - stamp } else { 0 }
 }
 
 // The map with the place i, where something holds of its sender.
@@ -82,13 +82,13 @@ fn with_place(map: u16, i: u8, here: bool) -> u16
 }
 
 // The record at that time.
-fn aged(s: Sender, t: u32, now: u64) -> Sender
-    ensures { λ r. ⌜ r ≡ agedAt t now s ⌝ }
+fn aged(s: Sender, t: u32, ms: u64) -> Sender
+    ensures { λ r. ⌜ r ≡ agedAt t ms s ⌝ }
 {
     let address = s.address;
     let last = s.last;
-    let drop = drops(s, t, now);
-    let die = dies(s, now);
+    let drop = drops(s, t, ms);
+    let die = dies(s, ms);
     let message = message_after(s, drop);
     let heard = heard_after(s, die);
     Sender {

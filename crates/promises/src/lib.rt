@@ -68,11 +68,11 @@ pub fn alive(state: Receiver, packet: &[u8]) -> Noted
     alive::alive(state, packet)
 }
 
-pub fn clock(state: Receiver, now: u64) -> Ticked
-    ensures answer { λ r. ⌜ r ≡ clockAnswer state now ⌝ }
-    ensures meets { λ r. ⌜ ((storage : List ℕ) → ClockMeets (world state storage) now r (world (r .state) storage)) ⌝ }
+pub fn clock(state: Receiver, ms: u64) -> Ticked
+    ensures answer { λ r. ⌜ r ≡ clockAnswer state ms ⌝ }
+    ensures meets { λ r. ⌜ ((storage : List ℕ) → ClockMeets (world state storage) ms r (world (r .state) storage)) ⌝ }
 {
-    clock::clock(state, now)
+    clock::clock(state, ms)
 }
 
 pub fn question(state: Receiver) -> Missing

@@ -13,12 +13,12 @@ use Rattle.clock.proofs.clock.Statement.{statement}
 use Rattle.clock.proofs.clock.Tie as tie
 
 abbrev Inv-loop : tie.InvT-loop
-Inv-loop now state₀ t count dropped₀ dead₀ i₀ state dropped dead i =
-    (i ≤ count) × (count ≤ sendersMost) × (dropped ≡ mapWhere (drops t now) (state₀ .senders) i) × (dead ≡ mapWhere (dies now) (state₀ .senders) i)
-    × (state ≡ withSenders state₀ (agedSenders t now (state₀ .senders) i))
+Inv-loop ms state₀ t count dropped₀ dead₀ i₀ state dropped dead i =
+    (i ≤ count) × (count ≤ sendersMost) × (dropped ≡ mapWhere (drops t ms) (state₀ .senders) i) × (dead ≡ mapWhere (dies ms) (state₀ .senders) i)
+    × (state ≡ withSenders state₀ (agedSenders t ms (state₀ .senders) i))
 
 abbrev μ-loop : tie.MeasureT-loop
-μ-loop now state₀ t count dropped₀ dead₀ i₀ state dropped dead i = count - i
+μ-loop ms state₀ t count dropped₀ dead₀ i₀ state dropped dead i = count - i
 
 within-requires : tie.Need-within-requires Inv-loop μ-loop
 within-requires c κs = search needs
@@ -28,7 +28,7 @@ unfolding notTicked
 returns c =
     let l = c .before in
     let a = l .before .args in
-    clock-nine (a .t1) (a .now) (sym (l .within .ensures) ∙ not-true _ (c .if1 .taken))
+    clock-nine (a .t1) (a .ms) (sym (l .within .ensures) ∙ not-true _ (c .if1 .taken))
 
 returns-2 : tie.Need-returns-2 Inv-loop μ-loop
 unfolding notTicked
@@ -36,7 +36,7 @@ returns-2 c =
     let ok = c .before in
     let l = ok .before in
     let a = l .before .args in
-    clock-back (a .t1) (a .now) (sym (l .within .ensures) ∙ not-false _ (ok .if1 .left)) (c .if2 .taken)
+    clock-back (a .t1) (a .ms) (sym (l .within .ensures) ∙ not-false _ (ok .if1 .left)) (c .if2 .taken)
 
 loop-holds : tie.Need-loop-holds Inv-loop μ-loop
 unfolding mapWhere agedSenders
@@ -99,9 +99,9 @@ loop-again c =
     let m = ap (λ (v : Receiver). v .senders) (l .inv .4) in (
       omega arith,
       omega arith,
-      dropped .with-place .ensures ∙ map-again (w .t) (a .now) (drops (w .t) (a .now)) (w .senders) _ (l .i) _ _ m (l .inv .2) (dropped .before .drops .ensures),
-      c .before .with-place2 .ensures ∙ map-again (w .t) (a .now) (dies (a .now)) (w .senders) _ (l .i) _ _ m (l .inv .3) (c .before .before .dies .ensures),
-      state-more w (l .state) (w .t) (a .now) (l .i) _ (l .inv .4) (c .aged .ensures),
+      dropped .with-place .ensures ∙ map-again (w .t) (a .ms) (drops (w .t) (a .ms)) (w .senders) _ (l .i) _ _ m (l .inv .2) (dropped .before .drops .ensures),
+      c .before .with-place2 .ensures ∙ map-again (w .t) (a .ms) (dies (a .ms)) (w .senders) _ (l .i) _ _ m (l .inv .3) (c .before .before .dies .ensures),
+      state-more w (l .state) (w .t) (a .ms) (l .i) _ (l .inv .4) (c .aged .ensures),
     )
 
 returns-3 : tie.Need-returns-3 Inv-loop μ-loop
@@ -112,7 +112,7 @@ returns-3 c =
     let looked = ok .before in
     let a = looked .before .args in
     let v = sym (looked .within .ensures) ∙ not-false _ (ok .if1 .left) in
-    ticked-is (a .t1) (l .state) (a .now) (l .i) _ _ (omega arith) (l .inv .4) (l .inv .2) (l .inv .3) ∙ clock-on (a .t1) (a .now) v (on .if2 .left)
+    ticked-is (a .t1) (l .state) (a .ms) (l .i) _ _ (omega arith) (l .inv .4) (l .inv .2) (l .inv .3) ∙ clock-on (a .t1) (a .ms) v (on .if2 .left)
 
 pub clock-spec : {M : Type 1} → statement M
 clock-spec =

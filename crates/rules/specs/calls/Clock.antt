@@ -14,15 +14,15 @@ use Rattle.state.specs.State.{noMessage, noHeard, noSender, settingsFrom, state
 
 -- "21: clock back or above its limit"
 abbrev pub clockRows : Receiver → ℕ → List Row
-clockRows w now = row 9 (not (valid w)) ∷ row 21 (ltb now (w .clock) || ltb clockMost now) ∷ []
+clockRows w ms = row 9 (not (valid w)) ∷ row 21 (ltb ms (w .clock) || ltb clockMost ms) ∷ []
 
 -- "It drops each open message whose age is T or more"
 abbrev pub drops : ℕ → ℕ → Sender → Bool
-drops t now s = s .«open» && leb t (now - s .message .stamp)
+drops t ms s = s .«open» && leb t (ms - s .message .stamp)
 
 -- "and calls dead each alive sender whose age is al_tm_out or more", which is in seconds; "al_tm_out 0 is dead at the next clock call."
 abbrev pub dies : ℕ → Sender → Bool
-dies now s = s .alive && leb (1000 * s .heard .timeout) (now - s .heard .stamp)
+dies ms s = s .alive && leb (1000 * s .heard .timeout) (ms - s .heard .stamp)
 
 -- The record of a message that was dropped, and the stamp and al_tm_out of a sender that died, are written 0.
 unfoldable pub aged : ℕ → ℕ → Sender → Sender
@@ -32,8 +32,8 @@ aged t now s = heardAs
 
 -- The first k senders aged.
 unfoldable pub agedSenders : ℕ → ℕ → List Sender → ℕ → List Sender
-agedSenders t now l zero = l
-agedSenders t now l (suc k) = set (agedSenders t now l k) k (aged t now (getD l k noSender))
+agedSenders t ms l zero = l
+agedSenders t ms l (suc k) = set (agedSenders t ms l k) k (aged t ms (getD l k noSender))
 
 -- "reports both as 16-bit maps, first sender lowest": the first k senders of which something holds.
 unfoldable pub mapWhere : (Sender → Bool) → List Sender → ℕ → ℕ
@@ -52,4 +52,4 @@ unfoldable pub notTicked : Receiver → ℕ → Ticked
 notTicked w k = record { call = Refused k; dropped = 0; dead = 0; state = w }
 
 unfoldable pub clockAnswer : Receiver → ℕ → Ticked
-clockAnswer w now = cond (eqb (first (clockRows w now)) 0) (ticked w now) (notTicked w (first (clockRows w now)))
+clockAnswer w ms = cond (eqb (first (clockRows w ms)) 0) (ticked w ms) (notTicked w (first (clockRows w ms)))
