@@ -4,7 +4,6 @@
 // It is total: any state and any octets may come, and each meets its number.
 ghost use mathlib.Core.Path.{_≡_};
 ghost use Rattle.rules.specs.calls.Alive.{aliveHeadWithin, aliveWithin, signalRows, heardBy, aliveAnswer};
-ghost use Rattle.state.specs.State.{heardAs};
 ghost use Rattle.rules.specs.calls.First.{first};
 use answers::Call;
 use answers::Noted;
@@ -97,23 +96,7 @@ fn heard_by(s: Sender, clock: u64, body: Body) -> Sender
             stamp: clock,
             timeout: body.timeout,
         };
-        return heard_as(s, true, heard);
+        return s.with_heard(true, heard);
     }
-    heard_as(s, false, Heard::NONE)
-}
-
-fn heard_as(s: Sender, alive: bool, heard: Heard) -> Sender
-    ensures { λ r. ⌜ r ≡ heardAs s alive heard ⌝ }
-{
-    let address = s.address;
-    let last = s.last;
-    let message = s.message;
-    Sender {
-        address,
-        last,
-        open: s.open,
-        message,
-        alive,
-        heard,
-    }
+    s.with_heard(false, Heard::NONE)
 }

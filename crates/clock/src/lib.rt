@@ -85,20 +85,12 @@ fn with_place(map: u16, i: u8, here: bool) -> u16
 fn aged(s: Sender, t: u32, ms: u64) -> Sender
     ensures { λ r. ⌜ r ≡ agedAt t ms s ⌝ }
 {
-    let address = s.address;
-    let last = s.last;
     let drop = drops(s, t, ms);
     let die = dies(s, ms);
     let message = message_after(s, drop);
     let heard = heard_after(s, die);
-    Sender {
-        address,
-        last,
-        open: s.open & !drop,
-        message,
-        alive: s.alive & !die,
-        heard,
-    }
+    let left = s.with_message(s.open & !drop, message);
+    left.with_heard(s.alive & !die, heard)
 }
 
 fn message_after(s: Sender, drop: bool) -> Message

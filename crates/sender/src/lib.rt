@@ -172,18 +172,9 @@ fn dropped_by(s: Sender, h: Head) -> Dropped
 fn delivered(s: Sender, v: Verdict, h: Head) -> Sender
     ensures { λ r. ⌜ r ≡ closed s (lastBy v s h) ⌝ }
 {
-    let address = s.address;
     let last = last_after(s, v, h);
-    let message = Message::NONE;
-    let heard = s.heard;
-    Sender {
-        address,
-        last,
-        open: false,
-        message,
-        alive: s.alive,
-        heard,
-    }
+    let none_open = s.with_message(false, Message::NONE);
+    none_open.with_last(last)
 }
 
 // Delivery stores V_SEQ and SEQ, but for an unchecked message.
@@ -204,18 +195,8 @@ fn opened(s: Sender, clock: u64, map: u64, h: Head) -> Sender
     requires { ⌜ isPossible (h .cut) ≡ true ⌝ }
     ensures { λ r. ⌜ r ≡ isOpened s (messageOf clock map h) ⌝ }
 {
-    let address = s.address;
-    let last = s.last;
     let message = message_of(clock, map, h);
-    let heard = s.heard;
-    Sender {
-        address,
-        last,
-        open: true,
-        message,
-        alive: s.alive,
-        heard,
-    }
+    s.with_message(true, message)
 }
 
 fn message_of(clock: u64, map: u64, h: Head) -> Message

@@ -4,14 +4,11 @@ ghost use mathlib.Core.Bool.{true, cond};
 ghost use Prim.Native.Nat.{_≤_};
 ghost use Rattle.rules.specs.calls.Setup.{setupWithin, setupState, setupAnswer};
 ghost use Rattle.setup.specs.private.Settled.{settled as settledBy};
-ghost use Rattle.state.specs.State.{sendersMost, newSender, emptyReceiver};
+ghost use Rattle.state.specs.State.{sendersMost, emptyReceiver};
 use answers::Call;
 use answers::Setup;
 use answers::Started;
 use state::Address;
-use state::Heard;
-use state::Last;
-use state::Message;
 use state::Receiver;
 use state::Sender;
 
@@ -47,22 +44,18 @@ fn setup_within(q: Setup) -> bool
 fn settled(q: Setup, within: bool) -> Receiver
     ensures { λ r. ⌜ r ≡ settledBy q within ⌝ }
 {
-    let empty = Receiver::empty();
+    let mut state = Receiver::empty();
     if !within {
-        return empty;
+        return state;
     }
-    let senders = empty.senders;
-    Receiver {
-        test: q.mode == 1,
-        n1: q.n1,
-        t: q.t,
-        clock: 0,
-        count: q.count,
-        senders,
-    }
+    state.test = q.mode == 1;
+    state.n1 = q.n1;
+    state.t = q.t;
+    state.count = q.count;
+    state
 }
 
-// Both answers' states come out of one loop: made on two ways, a state would be copied field by field wherever it goes.
+// Both answers' states come out of one loop: a state that is built in two places is copied field by field wherever it goes.
 fn new_state(q: Setup, within: bool) -> Receiver
     requires { ⌜ (within ≡ true → q .count ≤ sendersMost) ⌝ }
     ensures { λ r. ⌜ r ≡ cond within (setupState q) emptyReceiver ⌝ }
@@ -73,26 +66,9 @@ fn new_state(q: Setup, within: bool) -> Receiver
     let mut i: u8 = 0;
     while i < count {
         let a = addresses[i as usize];
-        let s = new_sender(a);
+        let s = Sender::new(a);
         state.senders[i as usize] = s;
         i += 1;
     }
     state
-}
-
-// Nobody is heard, nothing is open.
-fn new_sender(address: Address) -> Sender
-    ensures { λ r. ⌜ r ≡ newSender address ⌝ }
-{
-    let last = Last::NONE;
-    let message = Message::NONE;
-    let heard = Heard::NONE;
-    Sender {
-        address,
-        last,
-        open: false,
-        message,
-        alive: false,
-        heard,
-    }
 }

@@ -36,6 +36,16 @@ newSender a = record { address = a; last = noLast; «open» = false; message = n
 abbrev pub noSender : Sender
 noSender = newSender noAddress
 
+-- A sender's record with another message, with another time at which it was heard, and with other last numbers: all else stays.
+abbrev pub withMessage : Sender → Bool → Message → Sender
+withMessage s now-open m = record { address = s .address; last = s .last; «open» = now-open; message = m; alive = s .alive; heard = s .heard }
+
+abbrev pub withHeard : Sender → Bool → Heard → Sender
+withHeard s now-alive h = record { address = s .address; last = s .last; «open» = s .«open»; message = s .message; alive = now-alive; heard = h }
+
+abbrev pub withLast : Sender → Last → Sender
+withLast s l = record { address = s .address; last = l; «open» = s .«open»; message = s .message; alive = s .alive; heard = s .heard }
+
 -- The sender at a place of the table.
 abbrev pub senderAt : Receiver → ℕ → Sender
 senderAt w i = getD (w .senders) i noSender

@@ -9,7 +9,7 @@ ghost use lib.Dec.{ltb};
 ghost use Rattle.state.specs.Limits.{isAddress, sameAddress, lastWithin, messageWithin, senderWithin, settingsWithin, addressesWithin, valid};
 ghost use Rattle.state.specs.private.Key.{keyOf, Narrow, newKey};
 ghost use Rattle.state.specs.Table.{source, lookAt};
-ghost use Rattle.state.specs.State.{sendersMost, emptyReceiver};
+ghost use Rattle.state.specs.State.{sendersMost, newSender, withMessage, withHeard, withLast, emptyReceiver};
 use cut::possible::several;
 use header::Head;
 use header::codes::DataField;
@@ -183,6 +183,38 @@ impl Sender {
         alive: false,
         heard: Heard::NONE,
     };
+
+    // Nobody is heard, nothing is open.
+    pub fn new(address: Address) -> Sender
+        ensures { λ r. ⌜ r ≡ newSender address ⌝ }
+    {
+        let mut new = Sender::NONE;
+        new.address = address;
+        new
+    }
+
+    pub fn with_message(mut self, open: bool, message: Message) -> Sender
+        ensures { λ r. ⌜ r ≡ withMessage self «open» message ⌝ }
+    {
+        self.open = open;
+        self.message = message;
+        self
+    }
+
+    pub fn with_heard(mut self, alive: bool, heard: Heard) -> Sender
+        ensures { λ r. ⌜ r ≡ withHeard self alive heard ⌝ }
+    {
+        self.alive = alive;
+        self.heard = heard;
+        self
+    }
+
+    pub fn with_last(mut self, last: Last) -> Sender
+        ensures { λ r. ⌜ r ≡ withLast self last ⌝ }
+    {
+        self.last = last;
+        self
+    }
 
     pub fn within(self, clock: u64) -> bool
         ensures { λ r. ⌜ r ≡ senderWithin clock self ⌝ }

@@ -16,14 +16,35 @@ message-after-requires c κs = search needs
 heard-after-requires : tie.Need-heard-after-requires
 heard-after-requires c κs = search needs
 
+with-message-requires : tie.Need-with-message-requires
+with-message-requires c κs = search needs
+
+with-heard-requires : tie.Need-with-heard-requires
+with-heard-requires c κs = search needs
+
 returns : tie.Need-returns
 unfolding aged
 returns c =
-    let heard = c .before .before in
+    let left = c .before .before in
+    let heard = left .before .before in
     let tests = heard .before .before in
-    simp (tests .before .drops .ensures, tests .dies .ensures, heard .before .message-after .ensures, heard .heard-after .ensures)
+    simp (
+      tests .before .drops .ensures,
+      tests .dies .ensures,
+      heard .before .message-after .ensures,
+      heard .heard-after .ensures,
+      left .with-message .ensures,
+      c .with-heard .ensures,
+    )
 
 pub aged-spec : {M : Type 1} → statement M
 aged-spec =
     tie.close
-    (tie.spec drops-requires dies-requires message-after-requires heard-after-requires returns)
+    (tie.spec
+    drops-requires
+    dies-requires
+    message-after-requires
+    heard-after-requires
+    with-message-requires
+    with-heard-requires
+    returns)

@@ -38,8 +38,8 @@ mul-a c = omega arith
 array-copy-out-a : tie.Need-array-copy-out-a Inv-loop μ-loop
 array-copy-out-a c = omega arith
 
-new-sender-requires : tie.Need-new-sender-requires Inv-loop μ-loop
-new-sender-requires c κs = search needs
+new-requires : tie.Need-new-requires Inv-loop μ-loop
+new-requires c κs = search needs
 
 cast-s : tie.Need-cast-s Inv-loop μ-loop
 cast-s c = omega arith
@@ -60,7 +60,7 @@ loop-again : tie.Need-loop-again Inv-loop μ-loop
 unfolding newSenders
 loop-again c =
     let l = c .before .before .before .loop in
-    (omega arith, omega arith, simp length-set (l .inv .2), rw (add-one (l .i), l .inv .3, c .new-sender .ensures))
+    (omega arith, omega arith, simp length-set (l .inv .2), rw (add-one (l .i), l .inv .3, c .new .ensures))
 
 returns : tie.Need-returns Inv-loop μ-loop
 returns c =
@@ -81,7 +81,7 @@ new-state-spec =
     cast-a
     mul-a
     array-copy-out-a
-    new-sender-requires
+    new-requires
     cast-s
     mul-s
     element-set-from-s

@@ -14,7 +14,9 @@ returns c = rw (c .before .empty .ensures, not-true (c .before .before .args .wi
 
 returns-2 : tie.Need-returns-2
 unfolding settled
-returns-2 c = rw (c .before .before .before .empty .ensures, not-false (c .before .before .before .before .args .within) (c .before .before .if1 .left))
+returns-2 c =
+    let left = c .before in
+    rw (left .before .empty .ensures, not-false (left .before .before .args .within) (left .if1 .left))
 
 pub settled-spec : {M : Type 1} → statement M
 settled-spec = tie.close (tie.spec empty-requires returns returns-2)
