@@ -1,7 +1,7 @@
-// The alive call: who is heard, and who says that it goes. One function holds the state; it copies one sender's record out, and
+// The alive call: who is alive, and who says that it leaves. One function holds the state; it copies one sender's record out, and
 // puts it back.
 //
-// It is total: any state and any octets may come, and each meets its number.
+// It is total: it takes any state and any octets, and refuses with their number those outside the limits.
 ghost use mathlib.Core.Path.{_≡_};
 ghost use Rattle.rules.specs.calls.Alive.{aliveHeadWithin, aliveWithin, signalRows, heardBy, aliveAnswer};
 ghost use Rattle.rules.specs.calls.First.{first};
@@ -87,7 +87,7 @@ fn signal_within(size: usize, h: Head, body: Body) -> bool
         & body.within()
 }
 
-// The record of a sender that says that it is alive, or that it goes.
+// The record of a sender that says that it is alive, or that it leaves.
 fn heard_by(s: Sender, clock: u64, body: Body) -> Sender
     ensures { λ r. ⌜ r ≡ heardBy clock s body ⌝ }
 {

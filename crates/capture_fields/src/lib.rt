@@ -1,6 +1,6 @@
 // Cutting the next tagged field out of the octets at hand, and what its contents say.
 //
-// Every public function is total: octets may be any.
+// Every public function is total: it takes any octets.
 ghost use mathlib.Core.Path.{_≡_};
 ghost use Prim.Native.Nat.{_≤_};
 ghost use Rattle.capture_fields.specs.Field.{kindOf, isBad, nextOf, contentsOf, setupOf, addressIn, sendersOf, clockOf};

@@ -59,21 +59,21 @@ fn drops(s: Sender, t: u32, ms: u64) -> bool
     s.open & (t as u64 <= since(s.message.stamp, ms))
 }
 
-// Whether the alive sender is silent for al_tm_out seconds or more.
+// Whether the alive sender has been silent for al_tm_out seconds or more.
 fn dies(s: Sender, ms: u64) -> bool
     ensures { λ r. ⌜ r ≡ diesAt ms s ⌝ }
 {
     s.alive & (1_000 * (s.heard.timeout as u64) <= since(s.heard.stamp, ms))
 }
 
-// How long ago a stamp is.
+// How long ago a stamp is; 0 for a stamp that is not reached yet.
 fn since(stamp: u64, ms: u64) -> u64
     ensures { λ r. ⌜ r ≡ ms - stamp ⌝ }
 {
     if stamp <= ms { ms - stamp } else { 0 }
 }
 
-// The map with the place i, where something holds of its sender.
+// The map, with the place i marked if something holds of the sender there.
 fn with_place(map: u16, i: u8, here: bool) -> u16
     requires { ⌜ (i < sendersMost) × (map < 2 ^ i) ⌝ }
     ensures { λ r. ⌜ r ≡ map + cond here (2 ^ i) 0 ⌝ }

@@ -50,7 +50,7 @@ pub struct Address {
     pub node: Node,
 }
 
-// The two flags stand together: between larger fields each would cost a copy of the state a move for every sender.
+// The two flags stand together: apart, between larger fields, each would cost one move more for every sender where a state is copied.
 pub struct Sender {
     pub address: Address,
     pub open: bool,
@@ -184,7 +184,7 @@ impl Sender {
         heard: Heard::NONE,
     };
 
-    // Nobody is heard, nothing is open.
+    // A sender at setup: not heard, nothing open, nothing delivered.
     pub fn new(address: Address) -> Sender
         ensures { λ r. ⌜ r ≡ newSender address ⌝ }
     {
@@ -275,7 +275,7 @@ impl Receiver {
         look.valid
     }
 
-    // The settings, the clock and the count; of the states without senders only the empty one passes.
+    // The settings, the clock and the count; of the states without senders only the empty one passes, at any time.
     fn settings_within(self) -> bool
         ensures { λ r. ⌜ r ≡ settingsWithin self ⌝ }
     {
@@ -286,8 +286,8 @@ impl Receiver {
             & ((0 < self.count) | (!self.test & (self.n1 == 1) & (self.t == 1)))
     }
 
-    // One pass over the table, for the calls that need both: whether the state is within its limits, and where it is, at which
-    // place the sender with this address stands; the count where none does.
+    // One pass over the table, for the calls that need both: whether the state is within its limits, and if it is, at which place
+    // the sender with this address stands; the count if none has it.
     pub fn look(self, a: Address) -> Look
         ensures { λ r. ⌜ r ≡ lookAt self a ⌝ }
     {
@@ -329,7 +329,7 @@ pub struct Look {
 }
 
 impl Look {
-    // The place of the first that was found, once one more was looked at.
+    // The place that was found, once the sender at place i was looked at too; how many were looked at if it was none of them.
     fn next_place(at: u8, i: u8, here: bool) -> u8
         requires { ⌜ i < sendersMost ⌝ }
         ensures { λ r. ⌜ r ≡ cond (ltb at i) at (cond here i (i + 1)) ⌝ }
