@@ -303,7 +303,7 @@ module _ (w : World) (sound : Sound w) (i : ℕ) (here : i < w .state .count) wh
       (true-or-false (isFrom (addressAt (w .state .senders) i) packet))
   view-step (alive packet) = view-alive packet
   view-step (clock now) = view-clock now
-  view-step (aside call) = unfold step in refl
+  view-step (aside call) = unfold view step in refl
 
 -- ---- who the senders are, no call changes
 

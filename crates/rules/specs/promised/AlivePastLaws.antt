@@ -162,7 +162,7 @@ module _ (w : World) (sound : Sound w) (i : ℕ) (here : i < w .state .count) wh
       (λ (e : isSignal a packet ≡ false). unfold life step in rw (e, other-kept packet e, alive-only (w .state) packet .same-clock))
       (true-or-false (isSignal a packet))
   life-step (clock now) = life-clock now
-  life-step (aside call) = unfold step in refl
+  life-step (aside call) = unfold life step in refl
 
 life-after : (w : World) → Sound w → (i : ℕ) → i < w .state .count → (es : List Event)
     → life (after w es) i ≡ lifeAfter (addressAt (w .state .senders) i) (life w i) es
