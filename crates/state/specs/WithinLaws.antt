@@ -64,9 +64,10 @@ message-of clock m f =
 
 -- Time going on keeps an open message within its limits.
 pub message-later : (clock now : ℕ) (m : Message) → clock ≤ now → messageWithin clock m ≡ true → messageWithin now m ≡ true
+unfolding messageWithin
 message-later clock now m h e =
-    let f = message-facts clock m e in
-    message-of now m (record { number = f .number; code = f .code; cut = f .cut; not-empty = f .not-empty; not-full = f .not-full; stamp = omega arith })
+    let old = message-facts clock m e .stamp in
+    rw (le-leb (m .stamp) now (omega arith)) (rw (le-leb (m .stamp) clock old) at e)
 
 -- ---- a sender
 
