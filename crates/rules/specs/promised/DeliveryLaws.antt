@@ -3,7 +3,7 @@ use Prim.Native.Nat.{ℕ, suc, _-_, _≤_, _<_}
 use mathlib.Core.Path.{_≡_, refl, sym, ap, subst, _∙_}
 use mathlib.Core.Logic.{_≢_, _⊎_, inl, inr, ⊎-elim}
 use mathlib.Core.Bool.{true, false, not, cond, _&&_, _||_}
-use mathlib.Core.List.{List, [], _∷_, List·Memᴰ, List·Memᴰ·cases-cons, List·Memᴰ·not-nil}
+use mathlib.Core.List.{List, [], _∷_, List·Memᴰ, List·Memᴰ·head, List·Memᴰ·tail, List·Memᴰ·cases-cons, List·Memᴰ·not-nil}
 use native.Mathlib.Omega.{arith}
 use lib.Dec.{eqb, leb, ltb}
 use lib.ListN.{length}
@@ -34,7 +34,7 @@ use Rattle.rules.specs.pasts.PastLaws.{Sound, start-sound, past-sound, a
 use Rattle.rules.specs.promised.PhaseLaws.{Phase, phase-same, phase-start, phase-next, phase-last, phase-more, phase-held, phase-once, phase-clock}
 use Rattle.rules.specs.promised.PieceLaws.{Cuttable, least, piece-kin, piece-number, piece-octets}
 use Rattle.rules.specs.promised.JoinLaws.{Inv}
-use Rattle.rules.specs.promised.SafeLaws.{IfTaken, accepted-step, accepted-all, inv-step, inv-after, joined-part, start-inv, start-registered}
+use Rattle.rules.specs.promised.SafeLaws.{accepted-each, accepted-all, inv-step, inv-after, joined-part, start-inv, start-registered}
 use Rattle.rules.specs.pasts.View.{View, joining, view, isFrom, sees, outcomeView, nextView, tickView, stepView}
 use Rattle.rules.specs.pasts.ViewLaws.{Registered, registered-step, registered-view, registered-number, registered-outcome, registered-after}
 
@@ -66,16 +66,24 @@ module _ (g : Settings) (m : Sent) (k : Cuttable m) (admits : eqb (m .mode) 1 &&
     abbrev v : View
     v = view w i
 
-    on-step : (D : ℕ → Type 0) (e : Event) → IfTaken (m .address) Own w e → Phase m last D (stepView g v (sees (m .address) e) .sender) → OnItsWay D (step w e)
-    on-step D e f phase = record {
+    abbrev with : Event → List (List ℕ)
+    with e = acceptedOf (m .address) (o .packets) e (said w e)
+
+    on-step : (D : ℕ → Type 0) (e : Event) → ((q : List ℕ) → List·Memᴰ q (with e) → Own q) → Phase m last D (stepView g v (sees (m .address) e) .sender)
+        → OnItsWay D (step w e)
+    on-step D e own phase = record {
       registered = registered-step g (m .address) i w (o .registered) e;
-      packets = acceptedOf (m .address) (o .packets) e (said w e);
+      packets = with e;
       inv = inv-step g (m .address) i w (o .registered) (o .packets) (o .inv) e;
-      own = accepted-step g (m .address) i Own w (o .registered) (o .packets) (o .own) e f;
+      own = own;
       phase = subst (λ (x : View). Phase m last D (x .sender)) (sym (registered-view g (m .address) i w (o .registered) e)) phase;
     }
 
     -- ---- a packet of the sender's own
+
+    own-with : (p : List ℕ) → (isFrom (m .address) p ≡ true → isAccepted (answerTo w p) ≡ true → Own p) → (q : List ℕ) → List·Memᴰ q (with (message p)) → Own q
+    unfolding said
+    own-with p = accepted-each g (m .address) i w (o .registered) (o .packets) p Own (o .own)
 
     same-pieces : (D : ℕ → Type 0) → ((d : ℕ) → D d → ⊥) → Phase m last C (v .sender) → Phase m last (λ d. C d ⊎ D d) (v .sender)
     same-pieces D none = phase-same m last C (λ d. C d ⊎ D d) (v .sender) (λ d x. inl x) (λ d x. ⊎-elim (λ y. y) (λ (y : D d). absurd (none d y)) x)
@@ -95,15 +103,15 @@ module _ (g : Settings) (m : Sent) (k : Cuttable m) (admits : eqb (m .mode) 1 &&
 
     own-packet : (p : List ℕ) → isFrom (m .address) p ≡ true → ElseRefused m w p → OnItsWay (λ d. C d ⊎ PieceOf m d p) (step w (message p))
     unfolding sees stepView
-    own-packet p mine (inl is) = on-step (λ d. C d ⊎ PieceOf m d p) (message p) (λ _ _ _ _. is) (rw mine (own-piece p (is .0) (is .1)))
-    own-packet p mine (inr not) = on-step (λ d. C d ⊎ PieceOf m d p) (message p) (λ _ yes. absurd (never-both yes (not .1)))
+    own-packet p mine (inl is) = on-step (λ d. C d ⊎ PieceOf m d p) (message p) (own-with p (λ _ _ _ _. is)) (rw mine (own-piece p (is .0) (is .1)))
+    own-packet p mine (inr not) = on-step (λ d. C d ⊎ PieceOf m d p) (message p) (own-with p (λ _ yes. absurd (never-both yes (not .1))))
         (rw (mine, still p mine (not .1)) (same-pieces (λ d. PieceOf m d p) (not .0) (o .phase)))
 
     -- ---- any call that may come
 
     other-packet : (p : List ℕ) → isFrom (m .address) p ≡ false → OnItsWay (λ d. C d ⊎ PieceOf m d p) (step w (message p))
     unfolding sees stepView
-    other-packet p e = on-step (λ d. C d ⊎ PieceOf m d p) (message p) (λ mine. absurd (never-both mine e))
+    other-packet p e = on-step (λ d. C d ⊎ PieceOf m d p) (message p) (own-with p (λ mine. absurd (never-both mine e)))
         (rw e (same-pieces (λ d. PieceOf m d p) (λ d is. never-both (is .from) e) (o .phase)))
 
     kept : (now : ℕ) → KeptBy m i (w .state) now → ltb now (w .state .clock) || ltb clockMost now ≡ false → isOpen m (v .sender) ≡ true → drops (g .t) now (v .sender) ≡ false
@@ -127,10 +135,10 @@ module _ (g : Settings) (m : Sent) (k : Cuttable m) (admits : eqb (m .mode) 1 &&
         (λ (e : isFrom (m .address) p ≡ true). own-packet p e (f e))
         (λ (e : isFrom (m .address) p ≡ false). other-packet p e)
         (true-or-false (isFrom (m .address) p))
-    way-step (alive p) f = on-step (λ d. C d ⊎ ⊥) (alive p) tt (same-pieces (λ d. ⊥) (λ d x. x) (o .phase))
-    way-step (clock now) f = on-step (λ d. C d ⊎ ⊥) (clock now) tt
+    way-step (alive p) f = on-step (λ d. C d ⊎ ⊥) (alive p) (o .own) (same-pieces (λ d. ⊥) (λ d x. x) (o .phase))
+    way-step (clock now) f = on-step (λ d. C d ⊎ ⊥) (clock now) (o .own)
         (phase-same m last C (λ d. C d ⊎ ⊥) (tickView g v now .sender) (λ d x. inl x) (λ d x. ⊎-elim (λ y. y) (λ (y : ⊥). absurd y) x) (clock-call now f))
-    way-step (aside call) f = on-step (λ d. C d ⊎ ⊥) (aside call) tt (same-pieces (λ d. ⊥) (λ d x. x) (o .phase))
+    way-step (aside call) f = on-step (λ d. C d ⊎ ⊥) (aside call) (o .own) (same-pieces (λ d. ⊥) (λ d x. x) (o .phase))
 
   -- ---- the calls since the past
 
@@ -221,16 +229,21 @@ module _ (g : Settings) (m : Sent) (k : Cuttable m) (admits : eqb (m .mode) 1 &&
 
 -- ---- any past
 
-allowed-wider : (m : Sent) (i : ℕ) (w : World) (e : Event) → Allowed (OnlyPieces m) m i w e → Allowed (ElseRefused m) m i w e
-allowed-wider m i w (message packet) f = λ mine. inl (f mine)
-allowed-wider m i w (alive packet) f = f
-allowed-wider m i w (clock now) f = f
-allowed-wider m i w (aside call) f = f
+-- Calls that may come, may come too where what is asked of the sender's packets holds of those that come.
+module _ (own asked : World → List ℕ → Type 0) (m : Sent) (i : ℕ) where
+  allowed-by : (w : World) (e : Event) → ((p : List ℕ) → message p ≡ e → isFrom (m .address) p ≡ true → own w p → asked w p) → Allowed own m i w e → Allowed asked m i w e
+  allowed-by w (message p) so f = λ mine. so p refl mine (f mine)
+  allowed-by w (alive p) so f = f
+  allowed-by w (clock now) so f = f
+  allowed-by w (aside call) so f = f
 
--- Where nothing else of the sender comes, nothing else of it is taken.
-between-wider : (m : Sent) (i : ℕ) (w : World) (es : List Event) → Between (OnlyPieces m) m i w es → Between (ElseRefused m) m i w es
-between-wider m i w [] f = f
-between-wider m i w (e ∷ es) f = (allowed-wider m i w e (f .0), between-wider m i (step w e) es (f .1))
+  pub between-by : (w : World) (es : List Event) → ((v : World) (p : List ℕ) → List·Memᴰ (message p) es → isFrom (m .address) p ≡ true → own v p → asked v p)
+      → Between own m i w es → Between asked m i w es
+  between-by w [] so f = f
+  between-by w (e ∷ es) so f = (
+    allowed-by w e (λ p is. so w p (List·Memᴰ·head is)) (f .0),
+    between-by (step w e) es (λ v p there. so v p (List·Memᴰ·tail there)) (f .1),
+  )
 
 n1-some : (w : Receiver) → valid w ≡ true → 1 ≤ w .n1
 unfolding settingsOf
@@ -319,4 +332,4 @@ module _ (w₀ : World) (start : Start w₀) (past : List Event) (m : Sent) (i :
   pub arrives-only : (es : List Event) → Between (OnlyPieces m) m i w₁ es → (c : ℕ) (packet : List ℕ) → PieceOf m c packet
       → Arrives m (verdictFor (w₁ .state .n1) m (s₁ .last)) es c (answerTo (after w₁ es) packet .outcome) (partTo (after w₁ es) packet)
       × (m .version .0 ≢ 0 → Once m es (answerTo (after w₁ es) packet .outcome))
-  arrives-only es f = arrives-among es (between-wider m i w₁ es f)
+  arrives-only es f = arrives-among es (between-by (OnlyPieces m) (ElseRefused m) m i w₁ es (λ v p there mine is. inl is) f)

@@ -31,6 +31,7 @@ use Rattle.rules.specs.calls.Admit.{rejoins, sameCut, senderRows, mapAft
 use Rattle.rules.specs.promised.CameLaws.{decided, dec-by, dec-or, dec-true, dec-eq, dec-le, dec-octets, dec-cut, dec-piece, dec-brings, dec-came, others, one-applies}
 use Rattle.rules.specs.calls.Clock.{aged, agedSenders, mapWhere, ticked, clockAnswer}
 use Rattle.rules.specs.promised.Delivery.{Sent, PieceOf, isOpen, May, Allowed, Between, OnlyPieces, OneApplies, is-last, is-one, came-before, all-came, Arrives, Once}
+use Rattle.rules.specs.promised.DeliveryLaws.{between-by}
 use Rattle.rules.specs.calls.First.{first}
 use Rattle.rules.specs.calls.Message.{headWithin, messageRows, storageAfter, withSender, taken, refused, messageAnswer, messageStorage}
 use Rattle.rules.specs.calls.Part.{storedPart}
@@ -85,21 +86,18 @@ module _ (P : List ℕ → Type 0) (dec : (p : List ℕ) → Dec (P p)) where
   abbrev Each : List Event → Type 0
   Each es = (p : List ℕ) → List·Memᴰ (message p) es → P p
 
-  each-later : (e : Event) (es : List Event) → ((p : List ℕ) → message p ≢ e) → Dec (Each es) → Dec (Each (e ∷ es))
-  each-later e es n d = dec-by
-      (λ f p x. ⊎-elim (λ (q : message p ≡ e). absurd (n p q)) (f p) (List·Memᴰ·cases-cons x))
-      (λ f p x. f p (List·Memᴰ·tail x))
-      d
+  dec-brought : (e : Event) → Dec ((p : List ℕ) → message p ≡ e → P p)
+  dec-brought (message q) = dec-by (λ f p e. let z : q ≡ p = cc in subst P z f) (λ f. f q refl) (dec q)
+  dec-brought (alive q) = yes (λ p e. let z : _≡_ {A = ℕ} 0 1 = cc in absurd (omega arith))
+  dec-brought (clock now) = yes (λ p e. let z : _≡_ {A = ℕ} 0 1 = cc in absurd (omega arith))
+  dec-brought (aside call) = yes (λ p e. let z : _≡_ {A = ℕ} 0 1 = cc in absurd (omega arith))
 
   dec-each : (es : List Event) → Dec (Each es)
   dec-each [] = yes (λ p x. absurd (List·Memᴰ·not-nil x))
-  dec-each (message q ∷ es) = dec-by
-      (λ f p x. ⊎-elim (λ (e : message p ≡ message q). let z : q ≡ p = cc in subst P z (f .0)) (f .1 p) (List·Memᴰ·cases-cons x))
-      (λ f. (f q (List·Memᴰ·head refl), λ p x. f p (List·Memᴰ·tail x)))
-      (Dec·and (dec q) (dec-each es))
-  dec-each (alive q ∷ es) = each-later (alive q) es (λ p e. let z : _≡_ {A = ℕ} 0 1 = cc in omega arith) (dec-each es)
-  dec-each (clock now ∷ es) = each-later (clock now) es (λ p e. let z : _≡_ {A = ℕ} 0 1 = cc in omega arith) (dec-each es)
-  dec-each (aside call ∷ es) = each-later (aside call) es (λ p e. let z : _≡_ {A = ℕ} 0 1 = cc in omega arith) (dec-each es)
+  dec-each (e ∷ es) = dec-by
+      (λ f p x. ⊎-elim (f .0 p) (f .1 p) (List·Memᴰ·cases-cons x))
+      (λ f. (λ p z. f p (List·Memᴰ·head z), λ p x. f p (List·Memᴰ·tail x)))
+      (Dec·and (dec-brought e) (dec-each es))
 
 dec-allowed : (m : Sent) (w : World) (e : Event) → Dec (Allowed NoneAsked m 0 w e)
 dec-allowed m w (message p) = yes (λ _. tt)
@@ -151,7 +149,7 @@ promise e = promisedBy (sent e) (e .since) (e .piece) (verdict e) (one-applies (
 row : Example → Row
 unfolding
     decided dec-by dec-if dec-or dec-true dec-false dec-eq dec-le dec-octets dec-cut dec-address dec-piece dec-some dec-brings dec-came others one-applies promisedBy
-    each-later dec-each dec-allowed dec-kept decide failing conditions promise Dec·and Dec·not
+    dec-brought dec-each dec-allowed dec-kept decide failing conditions promise Dec·and Dec·not
     example without start setup after step
     run laid number octets check rule4 remainder newer layout tabulate octetOf codeOf header headOf isFixed pdu pieces pieceLength piece
     unit frontPossible lastPossible severalPossible possible bit firstWhere
@@ -269,16 +267,7 @@ module _ (e : Example) where
 
   -- The conditions are what the theorem asks for.
   pub conditions-between : Holds only-pieces e → Holds kept e → Between (OnlyPieces (sent e)) (sent e) 0 (before e) (e .since)
-  conditions-between = go (before e) (e .since)
-    where
-      go : (w : World) (es : List Event)
-          → ((p : List ℕ) → List·Memᴰ (message p) es → isFrom (sent e .address) p ≡ true → (c : ℕ) × PieceOf (sent e) c p)
-          → Between NoneAsked (sent e) 0 w es → Between (OnlyPieces (sent e)) (sent e) 0 w es
-      go w [] f k = tt
-      go w (message p ∷ es) f k = (f p (List·Memᴰ·head refl), go (step w (message p)) es (λ q i. f q (List·Memᴰ·tail i)) (k .1))
-      go w (alive p ∷ es) f k = (tt, go (step w (alive p)) es (λ q i. f q (List·Memᴰ·tail i)) (k .1))
-      go w (clock now ∷ es) f k = (k .0, go (step w (clock now)) es (λ q i. f q (List·Memᴰ·tail i)) (k .1))
-      go w (aside call ∷ es) f k = (tt, go (step w (aside call)) es (λ q i. f q (List·Memᴰ·tail i)) (k .1))
+  conditions-between f = between-by NoneAsked (OnlyPieces (sent e)) (sent e) 0 (before e) (e .since) (λ v p there mine _. f p there mine)
 
   pub conditions-may : ((y : Condition) → Holds y e) → May (sent e) 0 (e .past) (before e)
   conditions-may h = record {

@@ -190,7 +190,7 @@ module _ (g : Settings) (a : Address) (i : ℕ) (w : World) (r : Registered g a 
       (true-or-false (sameAddress a (source (headOf p)))))
 
   -- What holds of the packets accepted before and of this one, if it is accepted, holds of all.
-  accepted-each : (P : List ℕ → Type 0) → ((q : List ℕ) → List·Memᴰ q packets → P q) → (isFrom a p ≡ true → isAccepted (answerTo w p) ≡ true → P p)
+  pub accepted-each : (P : List ℕ → Type 0) → ((q : List ℕ) → List·Memᴰ q packets → P q) → (isFrom a p ≡ true → isAccepted (answerTo w p) ≡ true → P p)
       → (q : List ℕ) → List·Memᴰ q (acceptedWith a packets p (answerTo w p)) → P q
   unfolding acceptedWith
   accepted-each P old new =
@@ -209,25 +209,21 @@ module _ (g : Settings) (a : Address) (i : ℕ) (w : World) (r : Registered g a 
 
 -- ---- every past
 
--- If the call brings a packet from the address that is accepted, something holds of that packet.
-abbrev pub IfTaken : Address → (List ℕ → Type 0) → World → Event → Type 0
-IfTaken a P w (message p) = isFrom a p ≡ true → isAccepted (answerTo w p) ≡ true → P p
-IfTaken a P w (alive p) = Unit {0}
-IfTaken a P w (clock now) = Unit {0}
-IfTaken a P w (aside call) = Unit {0}
-
 module _ (g : Settings) (a : Address) (i : ℕ) where
-  pub inv-step : (w : World) → Registered g a i w → (packets : List (List ℕ)) → Inv packets (view w i) → (e : Event) → Inv (acceptedOf a packets e (said w e)) (view (step w e) i)
+  inv-seen : (w : World) → Registered g a i w → (packets : List (List ℕ)) → Inv packets (view w i) → (e : Event) → Inv (acceptedOf a packets e (said w e)) (stepView g (view w i) (sees a e))
   unfolding said sees stepView
-  inv-step w r packets inv (message p) = subst (Inv (acceptedWith a packets p (answerTo w p))) (sym (registered-view g a i w r (message p))) (⊎-elim
+  inv-seen w r packets inv (message p) = ⊎-elim
       (λ (e : isFrom a p ≡ true).
       rw (e, own-accepted g a i w r packets p e)
       (next-inv packets g (view w i) p inv (in-order-size p (unfold isFrom in and-left (inOrder p) (sameAddress a (source (headOf p))) e))))
       (λ (e : isFrom a p ≡ false). rw (e, other-accepted g a i w r packets p e) inv)
-      (true-or-false (isFrom a p)))
-  inv-step w r packets inv (alive p) = subst (Inv packets) (sym (registered-view g a i w r (alive p))) inv
-  inv-step w r packets inv (clock now) = subst (Inv packets) (sym (registered-view g a i w r (clock now))) (tick-inv packets g (view w i) now inv)
-  inv-step w r packets inv (aside call) = subst (Inv packets) (sym (registered-view g a i w r (aside call))) inv
+      (true-or-false (isFrom a p))
+  inv-seen w r packets inv (alive p) = inv
+  inv-seen w r packets inv (clock now) = tick-inv packets g (view w i) now inv
+  inv-seen w r packets inv (aside call) = inv
+
+  pub inv-step : (w : World) → Registered g a i w → (packets : List (List ℕ)) → Inv packets (view w i) → (e : Event) → Inv (acceptedOf a packets e (said w e)) (view (step w e) i)
+  inv-step w r packets inv e = subst (Inv (acceptedOf a packets e (said w e))) (sym (registered-view g a i w r e)) (inv-seen w r packets inv e)
 
   pub inv-after : (w : World) → Registered g a i w → (packets : List (List ℕ)) → Inv packets (view w i) → (es : List Event)
       → Inv (acceptedIn a packets es (answers w es)) (view (after w es) i)
@@ -236,10 +232,10 @@ module _ (g : Settings) (a : Address) (i : ℕ) where
   inv-after w r packets inv (e ∷ es) = inv-after (step w e) (registered-step g a i w r e) (acceptedOf a packets e (said w e)) (inv-step w r packets inv e) es
 
   -- What holds of the packets that were accepted, after one more call,
-  pub accepted-step : (P : List ℕ → Type 0) (w : World) → Registered g a i w → (packets : List (List ℕ)) → ((q : List ℕ) → List·Memᴰ q packets → P q)
-      → (e : Event) → IfTaken a P w e → (q : List ℕ) → List·Memᴰ q (acceptedOf a packets e (said w e)) → P q
+  accepted-step : (P : List ℕ → Type 0) (w : World) → Registered g a i w → (packets : List (List ℕ)) → ((q : List ℕ) → List·Memᴰ q packets → P q)
+      → (e : Event) → ((p : List ℕ) → message p ≡ e → isFrom a p ≡ true → P p) → (q : List ℕ) → List·Memᴰ q (acceptedOf a packets e (said w e)) → P q
   unfolding said
-  accepted-step P w r packets old (message p) f = accepted-each g a i w r packets p P old f
+  accepted-step P w r packets old (message p) f = accepted-each g a i w r packets p P old (λ mine _. f p refl mine)
   accepted-step P w r packets old (alive p) f = old
   accepted-step P w r packets old (clock now) f = old
   accepted-step P w r packets old (aside call) f = old
@@ -250,14 +246,8 @@ module _ (g : Settings) (a : Address) (i : ℕ) where
   unfolding acceptedIn answers
   accepted-all P w r packets old [] came = old
   accepted-all P w r packets old (e ∷ es) came =
-      accepted-all P (step w e) (registered-step g a i w r e) (acceptedOf a packets e (said w e)) (accepted-step P w r packets old e (here e came)) es
+      accepted-all P (step w e) (registered-step g a i w r e) (acceptedOf a packets e (said w e)) (accepted-step P w r packets old e (λ p is. came p (List·Memᴰ·head is))) es
       (λ p there. came p (List·Memᴰ·tail there))
-    where
-      here : (x : Event) → ((p : List ℕ) → List·Memᴰ (message p) (x ∷ es) → isFrom a p ≡ true → P p) → IfTaken a P w x
-      here (message p) f = λ mine yes. f p (List·Memᴰ·head refl) mine
-      here (alive p) f = tt
-      here (clock now) f = tt
-      here (aside call) f = tt
 
   -- What is delivered is a join of the packets accepted since.
   module _ (w : World) (r : Registered g a i w) (packets : List (List ℕ)) (inv : Inv packets (view w i)) (p : List ℕ) (mine : isFrom a p ≡ true) (vd : Verdict)
