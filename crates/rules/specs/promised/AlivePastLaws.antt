@@ -51,11 +51,14 @@ unfoldable life : World → ℕ → Life
 life w i = record { sender = living (senderAt (w .state) i); now = w .state .clock }
 
 -- The drop time is not looked at: nothing is open.
-unfoldable lifeBy : Address → Life → Event → Life
-lifeBy a l (message packet) = l
-lifeBy a l (alive packet) = cond (isSignal a packet) (record { sender = heardBy (l .now) (l .sender) (bodyOf packet); now = l .now }) l
-lifeBy a l (clock now) = cond (clockRefused (l .now) now) l (record { sender = aged 0 now (l .sender); now = now })
-lifeBy a l (aside call) = l
+unfoldable senderBy : Address → Life → Event → Sender
+senderBy a l (message packet) = l .sender
+senderBy a l (alive packet) = cond (isSignal a packet) (heardBy (l .now) (l .sender) (bodyOf packet)) (l .sender)
+senderBy a l (clock now) = cond (clockRefused (l .now) now) (l .sender) (aged 0 now (l .sender))
+senderBy a l (aside call) = l .sender
+
+abbrev lifeBy : Address → Life → Event → Life
+lifeBy a l e = record { sender = senderBy a l e; now = timeBy (l .now) e }
 
 abbrev lifeAfter : Address → Life → List Event → Life
 lifeAfter a = foldl (lifeBy a)
@@ -136,7 +139,7 @@ module _ (w : World) (sound : Sound w) (i : ℕ) (here : i < w .state .count) wh
       (λ _. refl)
 
   life-own : (packet : List ℕ) → isSignal a packet ≡ true → life (step w (alive packet)) i ≡ lifeBy a (life w i) (alive packet)
-  unfolding life step lifeBy aliveAnswer withSender
+  unfolding life step senderBy timeBy aliveAnswer withSender
   life-own packet e =
       let there : i < length (w .state .senders) = omega (arith, valid-length (w .state) (sound .is-valid)) in
       let place = found-own (w .state) (sound .is-valid) i here packet (signal-own a packet e) in
@@ -149,13 +152,13 @@ module _ (w : World) (sound : Sound w) (i : ℕ) (here : i < w .state .count) wh
       )
 
   life-clock : (now : ℕ) → life (step w (clock now)) i ≡ lifeBy a (life w i) (clock now)
-  unfolding life step lifeBy
+  unfolding life step senderBy timeBy
   life-clock now =
       clock-at (w .state) now (sound .is-valid) i here (λ t x. record { sender = living x; now = t } ≡ lifeBy a (life w i) (clock now))
       (λ e. rw e) (λ e. rw (e, living-aged (w .state .t) now s))
 
   life-step : (e : Event) → life (step w e) i ≡ lifeBy a (life w i) e
-  unfolding lifeBy
+  unfolding senderBy timeBy
   life-step (message packet) = unfold life step in rw (message-kept living w sound i here living-after packet, message-only (w .state) (length (w .storage)) packet .same-clock)
   life-step (alive packet) = ⊎-elim
       (λ (e : isSignal a packet ≡ true). life-own packet e)
@@ -217,20 +220,13 @@ module _ (a : Address) where
     since : (packet : List ℕ) → List·Memᴰ (alive packet) es → isSignal a packet ≡ false
     young : (now : ℕ) → List·Memᴰ now (clockTimes (l .now) es) → Young now (l .sender .heard)
 
-  now-by : (l : Life) (e : Event) → lifeBy a l e .now ≡ timeBy (l .now) e
-  unfolding lifeBy timeBy
-  now-by l (message packet) = refl
-  now-by l (alive packet) = cond-case (λ (x : Life). x .now ≡ l .now) (isSignal a packet) _ _ (λ _. refl) (λ _. refl)
-  now-by l (clock now) = ⊎-elim (λ (e : clockRefused (l .now) now ≡ true). rw e) (λ (e : clockRefused (l .now) now ≡ false). rw e) (true-or-false (clockRefused (l .now) now))
-  now-by l (aside call) = refl
-
   now-after : (l : Life) (es : List Event) → lifeAfter a l es .now ≡ timeAfter (l .now) es
   now-after l [] = refl
-  now-after l (e ∷ es) = now-after (lifeBy a l e) es ∙ ap (λ (t : ℕ). timeAfter t es) (now-by l e)
+  now-after l (e ∷ es) = now-after (lifeBy a l e) es
 
   -- "Mode 1: the sender is alive, stamped with the clock and al_tm_out"
   signal-life : (l : Life) (packet : List ℕ) → isSignal a packet ≡ true → bodyOf packet .mode ≡ 1 → lifeBy a l (alive packet) ≡ heardLife l (bodyOf packet)
-  unfolding lifeBy heardBy
+  unfolding senderBy timeBy heardBy
   signal-life l packet e m = rw (e, m)
 
   -- ---- one call more
@@ -287,7 +283,7 @@ module _ (a : Address) where
   -- ---- a past that leaves it alive
 
   lasts-on : (l : Life) (e : Event) (es : List Event) → Lasts l (e ∷ es) → Lasts (lifeBy a l e) es
-  unfolding lifeBy clockTimes
+  unfolding senderBy timeBy clockTimes
   lasts-on l (message packet) es f = quiet-on l (message packet) es refl f
   lasts-on l (alive packet) es f = rw (f .since packet (List·Memᴰ·head refl)) (quiet-on l (alive packet) es refl f)
   lasts-on l (clock now) es f = ⊎-elim
@@ -313,7 +309,7 @@ module _ (a : Address) where
   -- After the calls `past` it is as l says.
   module _ (past : List Event) (l : Life) (now-is : l .now ≡ timeAfter 0 past) where
     by-signal : (packet : List ℕ) (es : List Event) → isSignal a packet ≡ true → Lasts (lifeBy a l (alive packet)) es → AliveBy a (past ++ (alive packet ∷ es))
-    unfolding lifeBy
+    unfolding senderBy timeBy
     by-signal packet es e f =
         let one = heard-mode (l .now) (l .sender) (bodyOf packet) (rw e at (f .is-alive)) in
         let g = rw (signal-life l packet e one) at f in
@@ -332,7 +328,7 @@ module _ (a : Address) where
 
     -- Alive after e and to stay so, it was so before e, or is so by e.
     lasts-back : (e : Event) (es : List Event) → Lasts (lifeBy a l e) es → Lasts l (e ∷ es) ⊎ AliveBy a (past ++ (e ∷ es))
-    unfolding lifeBy clockTimes isOwn
+    unfolding senderBy timeBy clockTimes isOwn
     lasts-back (message packet) es f = inl (quiet-back l (message packet) es refl refl f)
     lasts-back (alive packet) es f = ⊎-elim
         (λ (e : isSignal a packet ≡ true). inr (by-signal packet es e f))
@@ -352,7 +348,7 @@ module _ (a : Address) where
   found-by past l now-is (e ∷ es) is = ⊎-elim
       (lasts-back past l now-is e es)
       (λ f. inr (subst (AliveBy a) (append-assoc past (e ∷ []) es) f))
-      (found-by (past ++ (e ∷ [])) (lifeBy a l e) (now-by l e ∙ ap (λ (t : ℕ). timeBy t e) now-is ∙ sym (foldl-append timeBy 0 past (e ∷ []))) es is)
+      (found-by (past ++ (e ∷ [])) (lifeBy a l e) (ap (λ (t : ℕ). timeBy t e) now-is ∙ sym (foldl-append timeBy 0 past (e ∷ []))) es is)
 
 -- ---- every past
 
