@@ -3,7 +3,6 @@
 //
 // What is answered is one number made of all answers, so that none can be left out and two programs are quickly compared.
 ghost use mathlib.Core.Path.{_≡_};
-ghost use Rattle.octets.specs.Run.{run};
 ghost use Rattle.state.specs.State.{sendersMost};
 ghost use Rattle.rules.specs.pasts.Past.{after};
 ghost use Rattle.bench_nights.specs.Night.{nodesTo, boardOf, begun, packetsBy, told as toldOf, summed, nightSum};
@@ -15,7 +14,7 @@ use cut::cutter::cutter;
 use header::Given;
 use header::codes::DataField;
 use header::codes::Node;
-use octets::from;
+use octets::run;
 use receiver::message::message;
 use receiver::part::part;
 use ring::Number;
@@ -45,7 +44,7 @@ pub extern "C" fn adp_night(
     let mut at: usize = 0;
     let mut i: usize = 0;
     while i < sizes.len() {
-        let packet = packet_at(packets, at, sizes[i]);
+        let packet = run(packets, at, sizes[i] as usize);
         let a = message(state, storage, packet);
         let outcome = a.outcome;
         let place = a.place;
@@ -126,18 +125,6 @@ fn given_of(number: u32) -> Given
 }
 
 // ---- one packet
-
-// The packet of this size at a place, as far as there are octets.
-fn packet_at(packets: &[u8], at: usize, size: u16) -> &[u8]
-    ensures { λ r. ⌜ now r ≡ run at size (now (packets .entry)) ⌝ }
-{
-    let rest = from(packets, at);
-    if (size as usize) < rest.len() {
-        &rest[..size as usize]
-    } else {
-        rest
-    }
-}
 
 // The sum with one more answer in it: its number or its verdict, the pieces held, and the length that was handed over.
 fn with_answer(sum: u64, o: Outcome, held: u8, length: usize) -> u64

@@ -7,11 +7,11 @@ ghost use Rattle.capture_fields.specs.Field.{kindOf, isBad, nextOf, cont
 use answers::Setup;
 use header::codes::DataField;
 use header::codes::Node;
-use octets::from;
 use octets::read1;
 use octets::read2;
 use octets::read4;
 use octets::read8;
+use octets::run;
 use state::Address;
 use state::Receiver;
 
@@ -89,15 +89,10 @@ fn is_bad(kind: Kind) -> bool
 }
 
 // The contents of the field at the front, of this many octets; of a field that is cut, those that are there.
-pub fn contents(octets: &[u8], length: usize) -> &[u8]
-    ensures { λ r. ⌜ now r ≡ contentsOf (now (octets .entry)) length ⌝ }
+pub fn contents(octets: &[u8], size: usize) -> &[u8]
+    ensures { λ r. ⌜ now r ≡ contentsOf (now (octets .entry)) size ⌝ }
 {
-    let rest = from(octets, HEAD);
-    if length < rest.len() {
-        &rest[..length]
-    } else {
-        rest
-    }
+    run(octets, HEAD, size)
 }
 
 // ---- the contents of a setup and of a clock

@@ -12,6 +12,7 @@ use edges_lines::line;
 use edges_lines::octets_line;
 use edges_lines::sum;
 use header::Given;
+use header::SIZE;
 use header::codes::DataField;
 use header::codes::Node;
 use octets::from;
@@ -19,6 +20,7 @@ use octets::read1;
 use octets::read2;
 use octets::read4;
 use octets::read8;
+use octets::run;
 use question::question;
 use receiver::part::part;
 use ring::Number;
@@ -72,12 +74,12 @@ fn cutting_lines(number: u8, length: u16, buffer: &[u8]) {
         &[
             number as u64,
             length as u64,
-            sum(front(buffer, k)),
+            sum(run(buffer, 0, k)),
             sum(from(buffer, k)),
         ],
     );
     if number == 0 {
-        octets_line(b'k', front(buffer, 64));
+        octets_line(b'k', run(buffer, 0, SIZE));
     }
 }
 
@@ -85,7 +87,11 @@ fn cutting_lines(number: u8, length: u16, buffer: &[u8]) {
 
 pub fn part_call<'a>(storage: &'a [u8], contents: &'a [u8]) {
     let lent = read4(contents, 17) as usize;
-    let handed = part(where_in(contents), from(contents, 21), front(storage, lent));
+    let handed = part(
+        where_in(contents),
+        from(contents, 21),
+        run(storage, 0, lent),
+    );
     line(b'R', &[handed.len() as u64, sum(handed)]);
 }
 
@@ -99,11 +105,6 @@ fn where_in(contents: &[u8]) -> Where {
             length: read8(contents, 9) as usize,
         },
     }
-}
-
-// The first k octets of a slice, all of them where it has no more.
-fn front(s: &[u8], k: usize) -> &[u8] {
-    if k < s.len() { &s[0..k] } else { s }
 }
 
 // ---- the next field

@@ -1,4 +1,4 @@
-// Numbers of 1, 2, 4 and 8 octets in lent slices, the high octet first, and a run of octets laid down in one.
+// Numbers of 1, 2, 4 and 8 octets in lent slices, the high octet first, and a run of octets taken from one or laid down in one.
 //
 // Every function is total. An octet past the end of a slice reads as 0. What would reach past the end is not laid
 // down at all, and the slice stays as it is. Nothing here knows of ADP.
@@ -6,7 +6,7 @@ ghost use mathlib.Core.Path.{_≡_};
 ghost use Prim.Native.Nat.{_+_, _≤_, _<_};
 ghost use lib.ListN.{length, drop};
 ghost use Rattle.octets.specs.Number.{number, octets};
-ghost use Rattle.octets.specs.Run.{laid};
+ghost use Rattle.octets.specs.Run.{run as runOf, laid};
 
 // ---- reading
 
@@ -46,6 +46,14 @@ pub fn from(s: &[u8], at: usize) -> &[u8]
     } else {
         &s[s.len()..]
     }
+}
+
+// The n octets from a place on, as far as there are so many.
+pub fn run(s: &[u8], at: usize, n: usize) -> &[u8]
+    ensures { λ r. ⌜ now r ≡ runOf at n (now (s .entry)) ⌝ }
+{
+    let rest = from(s, at);
+    if n < rest.len() { &rest[..n] } else { rest }
 }
 
 // ---- writing
@@ -114,10 +122,4 @@ pub fn write4(s: &mut [u8], at: usize, word: u32)
     ensures { λ _. ⌜ now (s .exit) ≡ laid (now (s .entry)) at (octets 4 word) ⌝ }
 {
     write(s, at, 4, word as u64);
-}
-
-pub fn write8(s: &mut [u8], at: usize, x: u64)
-    ensures { λ _. ⌜ now (s .exit) ≡ laid (now (s .entry)) at (octets 8 x) ⌝ }
-{
-    write(s, at, 8, x);
 }

@@ -4,6 +4,7 @@ ghost use Rattle.rules.specs.calls.Part.{behindHeader, storedPart, partOf};
 use answers::Where;
 use header::SIZE;
 use octets::from;
+use octets::run;
 
 // A message of one piece: the packet behind its header.
 pub fn behind_header(packet: &[u8]) -> &[u8]
@@ -16,13 +17,12 @@ pub fn behind_header(packet: &[u8]) -> &[u8]
 fn stored_part(storage: &[u8], start: usize, length: usize) -> &[u8]
     ensures { λ r. ⌜ now r ≡ storedPart (now (storage .entry)) start length ⌝ }
 {
-    if storage.len() < length {
-        return &storage[..0];
+    let part = run(storage, start, length);
+    if part.len() < length {
+        &part[..0]
+    } else {
+        part
     }
-    if storage.len() - length < start {
-        return &storage[..0];
-    }
-    &storage[start..start + length]
 }
 
 pub fn part<'a>(place: Where, packet: &'a [u8], storage: &'a [u8]) -> &'a [u8]

@@ -32,14 +32,17 @@ unfolding begun
 loop-holds c =
     (search needs, search needs, refl, begins _ _ _ _ (simp (c .before .setup .ensures, c .before .before .board .ensures)))
 
-mul-packet-at : tie.Need-mul-packet-at Inv-loop μ-loop
-mul-packet-at c = search needs
+mul-run : tie.Need-mul-run Inv-loop μ-loop
+mul-run c = search needs
 
-shared-slice-read-packet-at : tie.Need-shared-slice-read-packet-at Inv-loop μ-loop
-shared-slice-read-packet-at c = search needs
+shared-slice-read-run : tie.Need-shared-slice-read-run Inv-loop μ-loop
+shared-slice-read-run c = search needs
 
-packet-at-requires : tie.Need-packet-at-requires Inv-loop μ-loop
-packet-at-requires c κs = search needs
+cast-run : tie.Need-cast-run Inv-loop μ-loop
+cast-run c = omega (arith, c .shared-slice-known3 .given (c .before .before .loop .i))
+
+run-requires : tie.Need-run-requires Inv-loop μ-loop
+run-requires c κs = search needs
 
 message-requires : tie.Need-message-requires Inv-loop μ-loop
 message-requires c κs = search needs
@@ -55,7 +58,7 @@ add-at c =
     let test = c .before .before .before .before .before .before .before .before .before .before in
     let l = test .before .loop in
     let start = test .before .before .before .before .before .before .before .before in
-    let within = ends-within _ _ (l .at) _ (l .inv .1) (c .before .before .before .before .before .before .before .before .packet-at .ensures) in
+    let within = ends-within _ _ (l .at) _ (l .inv .1) (c .before .before .before .before .before .before .before .before .run .ensures) in
     omega (arith, within, start .good .1 .1 .1 .1 .0 .0)
 
 add-i : tie.Need-add-i Inv-loop μ-loop
@@ -72,7 +75,7 @@ unfolding step sumBy
 loop-again c =
     let test = c .before .before .before .before .before .before .before .before .before .before in
     let l = test .before .loop in
-    let p = c .before .before .before .before .before .before .before .before .packet-at in
+    let p = c .before .before .before .before .before .before .before .before .run in
     let m = c .before .before .before .before .before .before .message in
     let more = test .loop-test .taken in (
       omega (arith, more),
@@ -100,9 +103,10 @@ adp-night-spec =
     board-requires
     setup-requires
     loop-holds
-    mul-packet-at
-    shared-slice-read-packet-at
-    packet-at-requires
+    mul-run
+    shared-slice-read-run
+    cast-run
+    run-requires
     message-requires
     part-requires
     with-answer-requires
