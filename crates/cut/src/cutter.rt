@@ -6,11 +6,14 @@ ghost use mathlib.Core.Bool.{true};
 ghost use Prim.Native.Nat.{_+_, _≤_};
 ghost use lib.ListN.{length};
 ghost use Rattle.octets.specs.Run.{laid};
+ghost use Rattle.header.specs.Places.{headerSize};
 ghost use Rattle.cut.specs.Pieces.{pieceLength};
 ghost use Rattle.cut.specs.Cutter.{pdu, givenWithin, pieceWithin, limitsWithin, cutterAnswer, cutterBuffer, cuttingNumber, cuttingLength};
+use crate::pieces::MOST_OCTETS;
 use crate::pieces::piece_length;
 use crate::pieces::piece_place;
 use crate::pieces::pieces;
+use crate::possible::is_unit;
 use header::Cut;
 use header::Given;
 use header::Head;
@@ -87,11 +90,11 @@ fn given_within(g: Given) -> bool
 fn piece_within(n: usize, u: u16, c: u8) -> bool
     ensures { λ r. ⌜ r ≡ pieceWithin n u c ⌝ }
 {
-    (n <= 16_384) & ((256 <= u) & (u <= 1_396)) & (1 <= c) & (c as usize <= pieces(n, u))
+    (n <= MOST_OCTETS) & is_unit(u as u32) & (1 <= c) & (c as usize <= pieces(n, u))
 }
 
 fn write_pdu(given: Given, message: &[u8], u: u16, piece: u8, buffer: &mut [u8])
-    requires { ⌜ (pieceWithin (length (now message)) u piece ≡ true) × (64 + pieceLength (length (now message)) u piece ≤ length (now buffer)) ⌝ }
+    requires { ⌜ (pieceWithin (length (now message)) u piece ≡ true) × (headerSize + pieceLength (length (now message)) u piece ≤ length (now buffer)) ⌝ }
     ensures { λ _. ⌜ now (buffer .exit) ≡ laid (now (buffer .entry)) 0 (pdu given (now (message .entry)) u piece) ⌝ }
 {
     let n = message.len();

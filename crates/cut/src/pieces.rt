@@ -2,6 +2,14 @@
 ghost use mathlib.Core.Path.{_≡_};
 ghost use Rattle.cut.specs.Pieces.{pieces as piecesOf, pieceLength, piecePlace};
 
+// The most octets of a message.
+pub const MOST_OCTETS: usize = 16_384;
+
+// The piece length, which is MTU - 104.
+pub const LEAST_UNIT: u32 = 256;
+
+pub const MOST_UNIT: u32 = 1_396;
+
 // One piece where n is at most u, otherwise n / u rounded up. No message has pieces of 0 octets.
 pub fn pieces(n: usize, u: u16) -> usize
     ensures { λ r. ⌜ r ≡ piecesOf n u ⌝ }

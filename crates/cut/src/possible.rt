@@ -1,10 +1,16 @@
 // Whether a PDU's cut is possible, and what it says of the piece: by ML, BSIZE, CBN and TBN alone.
 ghost use mathlib.Core.Path.{_≡_};
 ghost use Prim.Native.Nat.{_-_, _/_, _≤_};
-ghost use Rattle.cut.specs.Possible.{messageLength, ownLength, unit as unitOf, place as placeOf, sizesWithin, severalPossible, frontPossible, lastPossible, possible as isPossible};
+ghost use Rattle.cut.specs.Possible.{messageLength, ownLength, unit as unitOf, place as placeOf, sizesWithin, isUnit, severalPossible, frontPossible, lastPossible, possible as isPossible};
+use crate::pieces::LEAST_UNIT;
+use crate::pieces::MOST_OCTETS;
+use crate::pieces::MOST_UNIT;
 use header::Cut;
+use header::SIZE;
 
-const HEADER: u32 = 64;
+const HEADER: u32 = SIZE as u32;
+
+const MOST: u32 = MOST_OCTETS as u32;
 
 // n, the message's length.
 pub fn message_length(c: Cut) -> u32
@@ -89,7 +95,7 @@ pub fn possible(c: Cut) -> bool
 fn sizes_within(c: Cut) -> bool
     ensures { λ r. ⌜ r ≡ sizesWithin c ⌝ }
 {
-    (HEADER <= c.ml) & (message_length(c) <= 16_384) & (64 <= c.bsize)
+    (HEADER <= c.ml) & (message_length(c) <= MOST) & (HEADER <= c.bsize as u32)
 }
 
 // Whether a message of n octets can be cut into t pieces of u, t more than one.
@@ -99,7 +105,14 @@ pub fn several(n: u32, t: u8, u: u32) -> bool
     if t <= 1 {
         return false;
     }
-    (n <= 16_384) & front_possible(n, t, u)
+    (n <= MOST) & front_possible(n, t, u)
+}
+
+// Whether pieces may have u octets.
+pub fn is_unit(u: u32) -> bool
+    ensures { λ r. ⌜ r ≡ isUnit u ⌝ }
+{
+    (LEAST_UNIT <= u) & (u <= MOST_UNIT)
 }
 
 // A piece before the last.
@@ -107,10 +120,7 @@ fn front_possible(n: u32, t: u8, u: u32) -> bool
     requires { ⌜ 1 ≤ t ⌝ }
     ensures { λ r. ⌜ r ≡ frontPossible n t u ⌝ }
 {
-    (256 <= u)
-        & (u <= 1_396)
-        & (((t - 1) as u64) * (u as u64) < n as u64)
-        & (n as u64 <= (t as u64) * (u as u64))
+    is_unit(u) & (((t - 1) as u64) * (u as u64) < n as u64) & (n as u64 <= (t as u64) * (u as u64))
 }
 
 // The last piece of several.
@@ -121,5 +131,5 @@ fn last_possible(n: u32, t: u8, p: u32, u: u32) -> bool
     if n <= p {
         return false;
     }
-    ((n - p) % ((t - 1) as u32) == 0) & ((256 <= u) & (u <= 1_396)) & (1 <= p) & (p <= u)
+    ((n - p) % ((t - 1) as u32) == 0) & is_unit(u) & (1 <= p) & (p <= u)
 }

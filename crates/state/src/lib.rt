@@ -10,6 +10,7 @@ ghost use Rattle.state.specs.Limits.{isAddress, sameAddress, lastWithin,
 ghost use Rattle.state.specs.private.Key.{keyOf, Narrow, newKey};
 ghost use Rattle.state.specs.Table.{source, lookAt};
 ghost use Rattle.state.specs.State.{sendersMost, newSender, withMessage, withHeard, withLast, emptyReceiver};
+use cut::pieces::MOST_OCTETS;
 use cut::possible::several;
 use header::Head;
 use header::codes::DataField;
@@ -244,7 +245,7 @@ impl Receiver {
     pub const PLACES: usize = 16;
 
     // The octets of storage that each has.
-    pub const AREA: usize = 16_384;
+    pub const AREA: usize = MOST_OCTETS;
 
     // The last ms that the clock may show.
     pub const CLOCK_MOST: u64 = 1_099_511_627_776;

@@ -21,10 +21,13 @@ cast-result c = search needs
 rem-result : tie.Need-rem-result
 rem-result c = search needs
 
+is-unit-requires : tie.Need-is-unit-requires
+is-unit-requires c κs = search needs
+
 returns-2 : tie.Need-returns-2
 unfolding lastPossible
-returns-2 c = rw (lt-ltb _ _ (c .if1 .left))
+returns-2 c = rw (lt-ltb _ _ (c .before .if1 .left), c .is-unit .ensures)
 
 pub last-possible-spec : {M : Type 1} → statement M
 last-possible-spec =
-    tie.close (tie.spec returns sub-result sub-result-2 cast-result rem-result returns-2)
+    tie.close (tie.spec returns sub-result sub-result-2 cast-result rem-result is-unit-requires returns-2)
