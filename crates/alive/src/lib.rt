@@ -9,11 +9,11 @@ use answers::Call;
 use answers::Noted;
 use header::Head;
 use header::codes::code_of;
-use header::codes::is_mode;
-use header::codes::is_pri;
-use header::is_fixed;
+use header::common_within;
+use header::length_outside;
 use header::read_head;
 use signal::Body;
+use signal::MOST;
 use signal::SIZE;
 use signal::group;
 use signal::read_body;
@@ -49,12 +49,11 @@ pub fn alive(mut state: Receiver, packet: &[u8]) -> Noted
 fn signal_number(valid: bool, count: u8, at: u8, packet: &[u8], h: Head, body: Body) -> u8
     ensures { λ r. ⌜ r ≡ first (signalRows valid count at (now (packet .entry)) h body) ⌝ }
 {
-    let cut = h.cut;
     let size = packet.len();
     if !valid {
         return 9;
     }
-    if (size < SIZE) | (1_472 < size) | (size != cut.bsize as usize) {
+    if length_outside(SIZE, MOST, size, h) {
         return 12;
     }
     if !head_within(packet, h) {
@@ -71,7 +70,7 @@ fn head_within(packet: &[u8], h: Head) -> bool
     ensures { λ r. ⌜ r ≡ aliveHeadWithin (now (packet .entry)) h ⌝ }
 {
     let given = h.given;
-    is_fixed(packet) & is_pri(given.pri) & is_mode(given.mode) & code_of(given.tcd).is_alive()
+    common_within(packet, h) & code_of(given.tcd).is_alive()
 }
 
 // ML, CBN, TBN, the group and the alive header.

@@ -1,13 +1,14 @@
 -- What a header says, and the 64 octets of one (5.1, Table 7; byte order by 5.1 and E.1).
-use mathlib.Core.Bool.{Bool, cond, _&&_}
+use mathlib.Core.Bool.{Bool, not, cond, _&&_, _||_}
 use mathlib.Core.List.{List, _++_}
 use Prim.Native.Nat.{ℕ}
-use lib.Dec.{eqb, leb}
+use lib.Dec.{eqb, leb, ltb}
 use lib.ListN.{length, drop}
 use Rattle.octets.specs.Number.{number}
 use Rattle.header.specs.declared.Given.{Given}
 use Rattle.header.specs.declared.Cut.{Cut}
 use Rattle.header.specs.declared.Head.{Head}
+use Rattle.header.specs.Codes.{isMode, isPri}
 use Rattle.header.specs.Layout.{layout}
 use Rattle.header.specs.Places.{Field, place, headerSize, rows}
 use Rattle.header.specs.Places.Field.{hType, ml, domain, dataField, node, da, vSeq, seq, mCtl, inqId, tcd, ver, gtid, mode, pver, pri, cbn, tbn, bsize, fui}
@@ -76,3 +77,13 @@ unfoldable pub isFixed : List ℕ → Bool
 isFixed s =
     eqb (valueAt s hType) nuxm && eqb (valueAt s domain) 0 && eqb (valueAt s inqId) 0 && eqb (valueAt s ver) 0
     && eqb (valueAt s gtid) 0 && eqb (valueAt s pver) 1 && eqb (valueAt s fui) 0
+
+-- ---- what every PDU is judged by
+
+-- "12: PDU too short …, too long …, or length unlike BSIZE", of a PDU of k octets.
+abbrev pub lengthOutside : ℕ → ℕ → ℕ → Head → Bool
+lengthOutside least most k h = ltb k least || ltb most k || not (eqb k (h .cut .bsize))
+
+-- "13: a fixed field of 5.1, PRI, MODE, … out of range"
+abbrev pub commonWithin : List ℕ → Head → Bool
+commonWithin packet h = isFixed packet && isPri (h .given .pri) && isMode (h .given .mode)

@@ -6,7 +6,7 @@ ghost use mathlib.Core.Path.{_≡_};
 ghost use lib.Dec.{eqb};
 ghost use Rattle.octets.specs.Number.{octets};
 ghost use Rattle.octets.specs.Run.{laid};
-ghost use Rattle.header.specs.Head.{valueAt, givenOf, cutOf, headOf, header, headed, isFixed};
+ghost use Rattle.header.specs.Head.{valueAt, givenOf, cutOf, headOf, header, headed, isFixed, lengthOutside, commonWithin};
 ghost use Rattle.header.specs.Places.Field.{inqId};
 
 pub mod codes;
@@ -14,6 +14,8 @@ pub mod places;
 
 use crate::codes::DataField;
 use crate::codes::Node;
+use crate::codes::is_mode;
+use crate::codes::is_pri;
 use octets::lay;
 use octets::read1;
 use octets::read2;
@@ -111,6 +113,24 @@ fn no_inquiry(packet: &[u8]) -> bool
     ensures { λ r. ⌜ r ≡ eqb (valueAt (now (packet .entry)) inqId) 0 ⌝ }
 {
     (read8(packet, places::INQ_ID) == 0) & (read4(packet, places::INQ_ID + 8) == 0)
+}
+
+// ---- what every PDU is judged by
+
+// Whether a PDU of k octets is too short, too long, or of another length than its BSIZE.
+pub fn length_outside(least: usize, most: usize, k: usize, h: Head) -> bool
+    ensures { λ r. ⌜ r ≡ lengthOutside least most k h ⌝ }
+{
+    let cut = h.cut;
+    (k < least) | (most < k) | (k != cut.bsize as usize)
+}
+
+// The fixed fields, PRI and MODE.
+pub fn common_within(packet: &[u8], h: Head) -> bool
+    ensures { λ r. ⌜ r ≡ commonWithin (now (packet .entry)) h ⌝ }
+{
+    let given = h.given;
+    is_fixed(packet) & is_pri(given.pri) & is_mode(given.mode)
 }
 
 // ---- writing

@@ -17,14 +17,16 @@ use cut::possible::place;
 use header::Head;
 use header::SIZE;
 use header::codes::code_of;
-use header::codes::is_mode;
-use header::codes::is_pri;
-use header::is_fixed;
+use header::common_within;
+use header::length_outside;
 use header::read_head;
 use octets::lay;
 use sender::admit;
 use state::Address;
 use state::Receiver;
+
+// The most octets of a message's PDU.
+const MOST: usize = 1_460;
 
 pub fn message(mut state: Receiver, storage: &mut [u8], packet: &[u8]) -> Answer
     ensures answer { λ r. ⌜ r ≡ messageAnswer state (length (now (storage .entry))) (now (packet .entry)) ⌝ }
@@ -74,7 +76,6 @@ pub fn message(mut state: Receiver, storage: &mut [u8], packet: &[u8]) -> Answer
 fn packet_number(valid: bool, count: u8, at: u8, room: usize, packet: &[u8], h: Head) -> u8
     ensures { λ r. ⌜ r ≡ first (packetRows valid count at room (now (packet .entry)) h) ⌝ }
 {
-    let cut = h.cut;
     let size = packet.len();
     if !valid {
         return 9;
@@ -82,7 +83,7 @@ fn packet_number(valid: bool, count: u8, at: u8, room: usize, packet: &[u8], h: 
     if room != (count as usize) * Receiver::AREA {
         return 11;
     }
-    if (size < SIZE) | (1_460 < size) | (size != cut.bsize as usize) {
+    if length_outside(SIZE, MOST, size, h) {
         return 12;
     }
     if !head_within(packet, h) {
@@ -97,11 +98,7 @@ fn head_within(packet: &[u8], h: Head) -> bool
 {
     let given = h.given;
     let number = given.number;
-    is_fixed(packet)
-        & is_pri(given.pri)
-        & is_mode(given.mode)
-        & code_of(given.tcd).is_user()
-        & number.within()
+    common_within(packet, h) & code_of(given.tcd).is_user() & number.within()
 }
 
 fn refused_number(o: Outcome) -> u8

@@ -12,6 +12,9 @@ use octets::read4;
 // The ADP header and the alive header; octets behind them are passed over.
 pub const SIZE: usize = 128;
 
+// The most octets of an alive PDU.
+pub const MOST: usize = 1_472;
+
 pub struct Body {
     // al_tm_out, in seconds
     pub timeout: u32,

@@ -11,41 +11,41 @@ returns : tie.Need-returns
 unfolding first
 returns c = rw (c .if1 .taken)
 
-cast-if2 : tie.Need-cast-if2
-cast-if2 c = search needs
+length-outside-requires : tie.Need-length-outside-requires
+length-outside-requires c κs = search needs
 
 returns-2 : tie.Need-returns-2
 unfolding first
-returns-2 c = simp (c .before .before .if1 .left, c .if2 .taken)
+returns-2 c = simp (c .before .before .if1 .left, sym (c .before .length-outside .ensures) ∙ c .if2 .taken)
 
 head-within-requires : tie.Need-head-within-requires
 head-within-requires c κs = search needs
 
 returns-3 : tie.Need-returns-3
 unfolding first
-returns-3 c = simp (c .before .before .before .before .if1 .left, c .before .before .if2 .left, ap not (sym (c .before .head-within .ensures)) ∙ c .if3 .taken)
+returns-3 c = simp (c .before .before .before .before .if1 .left, sym (c .before .before .before .length-outside .ensures) ∙ c .before .before .if2 .left, ap not (sym (c .before .head-within .ensures)) ∙ c .if3 .taken)
 
 returns-4 : tie.Need-returns-4
 unfolding first
-returns-4 c = simp (c .before .before .before .before .before .if1 .left, c .before .before .before .if2 .left, ap not (sym (c .before .before .head-within .ensures)) ∙ c .before .if3 .left, le-leb _ _ (c .if4 .taken))
+returns-4 c = simp (c .before .before .before .before .before .if1 .left, sym (c .before .before .before .before .length-outside .ensures) ∙ c .before .before .before .if2 .left, ap not (sym (c .before .before .head-within .ensures)) ∙ c .before .if3 .left, le-leb _ _ (c .if4 .taken))
 
 signal-within-requires : tie.Need-signal-within-requires
 signal-within-requires c κs = search needs
 
 returns-5 : tie.Need-returns-5
 unfolding first
-returns-5 c = simp (c .before .before .before .before .before .before .before .if1 .left, c .before .before .before .before .before .if2 .left, ap not (sym (c .before .before .before .before .head-within .ensures)) ∙ c .before .before .before .if3 .left, lt-leb _ _ (c .before .before .if4 .left), ap not (sym (c .before .signal-within .ensures)) ∙ c .if5 .taken)
+returns-5 c = simp (c .before .before .before .before .before .before .before .if1 .left, sym (c .before .before .before .before .before .before .length-outside .ensures) ∙ c .before .before .before .before .before .if2 .left, ap not (sym (c .before .before .before .before .head-within .ensures)) ∙ c .before .before .before .if3 .left, lt-leb _ _ (c .before .before .if4 .left), ap not (sym (c .before .signal-within .ensures)) ∙ c .if5 .taken)
 
 returns-6 : tie.Need-returns-6
 unfolding first
-returns-6 c = simp (c .before .before .before .before .before .before .before .if1 .left, c .before .before .before .before .before .if2 .left, ap not (sym (c .before .before .before .before .head-within .ensures)) ∙ c .before .before .before .if3 .left, lt-leb _ _ (c .before .before .if4 .left), ap not (sym (c .before .signal-within .ensures)) ∙ c .if5 .left)
+returns-6 c = simp (c .before .before .before .before .before .before .before .if1 .left, sym (c .before .before .before .before .before .before .length-outside .ensures) ∙ c .before .before .before .before .before .if2 .left, ap not (sym (c .before .before .before .before .head-within .ensures)) ∙ c .before .before .before .if3 .left, lt-leb _ _ (c .before .before .if4 .left), ap not (sym (c .before .signal-within .ensures)) ∙ c .if5 .left)
 
 pub signal-number-spec : {M : Type 1} → statement M
 signal-number-spec =
     tie.close
     (tie.spec
     returns
-    cast-if2
+    length-outside-requires
     returns-2
     head-within-requires
     returns-3

@@ -7,10 +7,10 @@ use lib.Dec.{eqb, leb}
 use lib.ListN.{length}
 use Rattle.header.specs.declared.Head.{Head}
 use Rattle.signal.specs.declared.Body.{Body}
-use Rattle.signal.specs.Alive.{bodyOf, isBody, groupOf}
+use Rattle.signal.specs.Alive.{mostAlivePdu, bodyOf, isBody, groupOf}
 use Rattle.signal.specs.AlivePlaces.{aliveSize}
-use Rattle.header.specs.Codes.{isAlive, isMode, isPri}
-use Rattle.header.specs.Head.{headOf, isFixed}
+use Rattle.header.specs.Codes.{isAlive}
+use Rattle.header.specs.Head.{headOf, lengthOutside, commonWithin}
 use Rattle.state.specs.declared.Sender.{Sender}
 use Rattle.state.specs.declared.Receiver.{Receiver}
 use Rattle.answers.specs.declared.Call.the-variants.{Done, Refused}
@@ -18,19 +18,19 @@ use Rattle.answers.specs.declared.Noted.{Noted}
 use Rattle.rules.specs.calls.First.{Row, row, first}
 use Rattle.state.specs.Limits.{valid}
 use Rattle.state.specs.Table.{found}
-use Rattle.rules.specs.calls.Message.{lengthOutside, withSender}
+use Rattle.rules.specs.calls.Message.{withSender}
 use Rattle.state.specs.State.{senderAt, noHeard, heardAs}
 
 -- ---- the numbers
 
 -- "12: PDU too short (64; alive 128), too long (1,460; alive 1,472), or length unlike BSIZE"
 abbrev pub aliveLengthWrong : ℕ → Head → Bool
-aliveLengthWrong = lengthOutside aliveSize 1472
+aliveLengthWrong = lengthOutside aliveSize mostAlivePdu
 
 -- "13: a fixed field of 5.1, PRI, MODE, code, or SEQ (…; not looked at in alive signals) out of range"; "Code in 13 means … in an
 -- alive signal not 60,003."
 unfoldable pub aliveHeadWithin : List ℕ → Head → Bool
-aliveHeadWithin packet h = isFixed packet && isPri (h .given .pri) && isMode (h .given .mode) && isAlive (h .given .tcd)
+aliveHeadWithin packet h = commonWithin packet h && isAlive (h .given .tcd)
 
 -- "22: alive ML, CBN, TBN, group or body wrong"
 unfoldable pub aliveWithin : ℕ → Head → Body → Bool

@@ -1,15 +1,16 @@
 -- The message call: its numbers in the order in which they are tried, and what an admitted PDU does to state and storage.
 use Prim.Native.Nat.{ℕ, _+_, _*_}
-use mathlib.Core.Bool.{Bool, not, cond, _&&_, _||_}
+use mathlib.Core.Bool.{Bool, not, cond, _&&_}
 use mathlib.Core.List.{List, [], _∷_, _++_}
-use lib.Dec.{eqb, leb, ltb}
+use lib.Dec.{eqb, leb}
 use lib.ListN.{set, length}
 use Rattle.octets.specs.Run.{run, laid}
 use Rattle.ring.specs.Ring.{isNumber}
 use Rattle.header.specs.declared.Head.{Head}
-use Rattle.header.specs.Codes.{isUser, isMode, isPri}
-use Rattle.header.specs.Head.{headOf, isFixed}
+use Rattle.header.specs.Codes.{isUser}
+use Rattle.header.specs.Head.{headOf, lengthOutside, commonWithin}
 use Rattle.header.specs.Places.{headerSize}
+use Rattle.cut.specs.Pieces.{mostOctets}
 use Rattle.cut.specs.Possible.{place, messageLength, ownLength}
 use Rattle.state.specs.declared.Sender.{Sender}
 use Rattle.state.specs.declared.Receiver.{Receiver}
@@ -26,22 +27,20 @@ use Rattle.state.specs.Table.{found}
 
 -- "The storage is exactly 16,384 octets for each sender, in table order."
 abbrev pub area : ℕ
-area = 16384
+area = mostOctets
 
 -- ---- the numbers
 
--- "PDU too short …, too long …, or length unlike BSIZE"
-abbrev pub lengthOutside : ℕ → ℕ → ℕ → Head → Bool
-lengthOutside least most k h = ltb k least || ltb most k || not (eqb k (h .cut .bsize))
-
 -- "64 … 1,460"
+abbrev pub mostPdu : ℕ
+mostPdu = 1460
+
 abbrev pub lengthWrong : ℕ → Head → Bool
-lengthWrong = lengthOutside headerSize 1460
+lengthWrong = lengthOutside headerSize mostPdu
 
 -- "a fixed field of 5.1, PRI, MODE, code, or SEQ (0 or above M) out of range" is 13.
 unfoldable pub headWithin : List ℕ → Head → Bool
-headWithin packet h =
-    isFixed packet && isPri (h .given .pri) && isMode (h .given .mode) && isUser (h .given .tcd) && isNumber (h .given .number .0)
+headWithin packet h = commonWithin packet h && isUser (h .given .tcd) && isNumber (h .given .number .0)
 
 -- 9 and 11 to 14, of a packet with this header from the sender at place i.
 abbrev pub packetRows : Bool → ℕ → ℕ → ℕ → List ℕ → Head → List Row

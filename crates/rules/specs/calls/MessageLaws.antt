@@ -24,7 +24,7 @@ use Rattle.rules.specs.calls.First.{first}
 use Rattle.rules.specs.calls.FirstLaws.{first-here, first-none, first-append, first-neither, numbered}
 use Rattle.state.specs.Limits.{valid}
 use Rattle.state.specs.LimitsLaws.{valid-count}
-use Rattle.rules.specs.calls.Message.{area, lengthWrong, headWithin, packetRows, messageRows, messageNumber, storageAfter, whereBy, withSender, taken, refused, messageAnswer, messageStorage}
+use Rattle.rules.specs.calls.Message.{area, mostPdu, lengthWrong, headWithin, packetRows, messageRows, messageNumber, storageAfter, whereBy, withSender, taken, refused, messageAnswer, messageStorage}
 use Rattle.state.specs.Table.{source, found, lookAt}
 use Rattle.state.specs.State.{sendersMost, senderAt}
 use Rattle.state.specs.TableLaws.{look-valid, look-place}
@@ -52,8 +52,8 @@ passed-facts ok count i room packet h e =
     let r12 = first-none 12 (lengthWrong (length packet) h) _ (λ z. omega arith) (r11 .1) in
     let r13 = first-none 13 (not (headWithin packet h)) _ (λ z. omega arith) (r12 .1) in
     let r14 = first-none 14 (leb count i) _ (λ z. omega arith) (r13 .1) in
-    let long = or-false (ltb (length packet) headerSize || ltb 1460 (length packet)) (not (eqb (length packet) (h .cut .bsize))) (r12 .0) in
-    let short = or-false (ltb (length packet) headerSize) (ltb 1460 (length packet)) (long .0) in
+    let long = or-false (ltb (length packet) headerSize || ltb mostPdu (length packet)) (not (eqb (length packet) (h .cut .bsize))) (r12 .0) in
+    let short = or-false (ltb (length packet) headerSize) (ltb mostPdu (length packet)) (long .0) in
     record {
       is-valid = not-false ok (r9 .0);
       room-right = eqb-true room (count * area) (not-false (eqb room (count * area)) (r11 .0));

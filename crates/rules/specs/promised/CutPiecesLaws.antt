@@ -17,10 +17,10 @@ use Rattle.header.specs.HeadLaws.{length-header}
 use Rattle.header.specs.Places.{headerSize}
 use Rattle.cut.specs.Cutter.{Words, headFor, pdu, givenWithin, pieceWithin, limitsWithin, cuts}
 use Rattle.cut.specs.CutterLaws.{Within, within-short, length-pdu}
-use Rattle.cut.specs.Pieces.{pieceLength, piece}
+use Rattle.cut.specs.Pieces.{pieceLength, piece, mostUnit}
 use Rattle.cut.specs.ReadLaws.{cuts-within, pdu-head, pdu-fixed}
 use Rattle.rules.specs.promised.Delivery.{sentBy, PieceOf}
-use Rattle.rules.specs.calls.Message.{lengthWrong, headWithin}
+use Rattle.rules.specs.calls.Message.{lengthWrong, headWithin, mostPdu}
 use Rattle.rules.specs.pasts.View.{inOrder, isFrom}
 
 module _ (g : Given) (octets : List ℕ) (u c room : ℕ) (yes : cuts g octets u c room ≡ true) (words : Words g) where
@@ -37,12 +37,12 @@ module _ (g : Given) (octets : List ℕ) (u c room : ℕ) (yes : cuts g octets u
   length-right : lengthWrong (length packet) (headFor g octets u c) ≡ false
   length-right =
       let k = pieceLength (length octets) u c in
-      let short : k ≤ 1396 = within-short (length octets) u c within in
+      let short : k ≤ mostUnit = within-short (length octets) u c within in
       let same : headerSize + k ≡ k + headerSize = omega arith in
       rw (
         length-pdu g octets u c within,
         le-ltb (headerSize + k) headerSize (omega arith),
-        le-ltb 1460 (headerSize + k) (omega arith),
+        le-ltb mostPdu (headerSize + k) (omega arith),
         eq-eqb (headerSize + k) (k + headerSize) same,
       )
 

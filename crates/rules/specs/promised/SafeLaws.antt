@@ -33,7 +33,7 @@ use Rattle.rules.specs.calls.Admit.{rejoins, fills, admitted}
 use Rattle.rules.specs.calls.AdmitLaws.{admitted-facts}
 use Rattle.rules.specs.promised.Join.{Joined, behind}
 use Rattle.rules.specs.promised.JoinLaws.{Inv, next-inv, tick-inv, partView, delivered-joined}
-use Rattle.rules.specs.calls.Message.{area, lengthWrong, headWithin, messageNumber, messageAnswer, messageStorage, storageAfter, liesAt, taken, refused}
+use Rattle.rules.specs.calls.Message.{area, mostPdu, lengthWrong, headWithin, messageNumber, messageAnswer, messageStorage, storageAfter, liesAt, taken, refused}
 use Rattle.rules.specs.calls.MessageLaws.{Passed, taken-facts, or-false}
 use Rattle.rules.specs.calls.Part.{partOf, storedPart}
 use Rattle.rules.specs.pasts.Past.{World, Event, message, alive, clock, aside, step, after, answerTo, partTo, said, answers, Start}
@@ -134,7 +134,7 @@ in-order-size : (packet : List ℕ) → inOrder packet ≡ true → length packe
 unfolding inOrder
 in-order-size p e =
     let long = not-true (lengthWrong (length p) (headOf p)) (and-left (not (lengthWrong (length p) (headOf p))) (headWithin p (headOf p)) e) in
-    let unlike = or-false (ltb (length p) headerSize || ltb 1460 (length p)) (not (eqb (length p) (headOf p .cut .bsize))) long .1 in
+    let unlike = or-false (ltb (length p) headerSize || ltb mostPdu (length p)) (not (eqb (length p) (headOf p .cut .bsize))) long .1 in
     eqb-true (length p) (headOf p .cut .bsize) (not-false (eqb (length p) (headOf p .cut .bsize)) unlike)
 
 module _ (g : Settings) (a : Address) (i : ℕ) (w : World) (r : Registered g a i w) (packets : List (List ℕ)) (p : List ℕ) where

@@ -18,27 +18,27 @@ returns-2 : tie.Need-returns-2
 unfolding first
 returns-2 c = simp (c .before .if1 .left, ne-eqb _ _ (c .if2 .taken))
 
-cast-if3 : tie.Need-cast-if3
-cast-if3 c = search needs
+length-outside-requires : tie.Need-length-outside-requires
+length-outside-requires c κs = search needs
 
 returns-3 : tie.Need-returns-3
 unfolding first
-returns-3 c = simp (c .before .before .before .if1 .left, eq-eqb _ _ (c .before .before .if2 .left), c .if3 .taken)
+returns-3 c = simp (c .before .before .before .if1 .left, eq-eqb _ _ (c .before .before .if2 .left), sym (c .before .length-outside .ensures) ∙ c .if3 .taken)
 
 head-within-requires : tie.Need-head-within-requires
 head-within-requires c κs = search needs
 
 returns-4 : tie.Need-returns-4
 unfolding first
-returns-4 c = simp (c .before .before .before .before .before .if1 .left, eq-eqb _ _ (c .before .before .before .before .if2 .left), c .before .before .if3 .left, ap not (sym (c .before .head-within .ensures)) ∙ c .if4 .taken)
+returns-4 c = simp (c .before .before .before .before .before .if1 .left, eq-eqb _ _ (c .before .before .before .before .if2 .left), sym (c .before .before .before .length-outside .ensures) ∙ c .before .before .if3 .left, ap not (sym (c .before .head-within .ensures)) ∙ c .if4 .taken)
 
 returns-5 : tie.Need-returns-5
 unfolding first
-returns-5 c = simp (c .before .before .before .before .before .before .if1 .left, eq-eqb _ _ (c .before .before .before .before .before .if2 .left), c .before .before .before .if3 .left, ap not (sym (c .before .before .head-within .ensures)) ∙ c .before .if4 .left, le-leb _ _ (c .if5 .taken))
+returns-5 c = simp (c .before .before .before .before .before .before .if1 .left, eq-eqb _ _ (c .before .before .before .before .before .if2 .left), sym (c .before .before .before .before .length-outside .ensures) ∙ c .before .before .before .if3 .left, ap not (sym (c .before .before .head-within .ensures)) ∙ c .before .if4 .left, le-leb _ _ (c .if5 .taken))
 
 returns-6 : tie.Need-returns-6
 unfolding first
-returns-6 c = simp (c .before .before .before .before .before .before .if1 .left, eq-eqb _ _ (c .before .before .before .before .before .if2 .left), c .before .before .before .if3 .left, ap not (sym (c .before .before .head-within .ensures)) ∙ c .before .if4 .left, lt-leb _ _ (c .if5 .left))
+returns-6 c = simp (c .before .before .before .before .before .before .if1 .left, eq-eqb _ _ (c .before .before .before .before .before .if2 .left), sym (c .before .before .before .before .length-outside .ensures) ∙ c .before .before .before .if3 .left, ap not (sym (c .before .before .head-within .ensures)) ∙ c .before .if4 .left, lt-leb _ _ (c .if5 .left))
 
 pub packet-number-spec : {M : Type 1} → statement M
 packet-number-spec =
@@ -47,7 +47,7 @@ packet-number-spec =
     returns
     mul-if2
     returns-2
-    cast-if3
+    length-outside-requires
     returns-3
     head-within-requires
     returns-4
