@@ -1,7 +1,7 @@
 -- The map of pieces held: "piece c at bit c − 1, bit 0 lowest".
 use Prim.Native.Nat.{ℕ, zero, suc, _+_, _-_, _/_, _%_, _^_}
-use mathlib.Core.Bool.{Bool, not, cond, _&&_}
-use lib.Dec.{eqb, leb, ltb}
+use mathlib.Core.Bool.{Bool, true, not, cond, _&&_}
+use lib.Dec.{eqb, leb}
 
 -- Bit k of a number, bit 0 lowest.
 unfoldable pub bit : ℕ → ℕ → ℕ
@@ -20,9 +20,22 @@ pieceBit c = 2 ^ (c - 1)
 abbrev pub fullMap : ℕ → ℕ
 fullMap t = 2 ^ t - 1
 
--- A map of t pieces that is not "empty, full or marked past TBN": a mark past TBN makes it larger than the full one.
-abbrev pub isPartial : ℕ → ℕ → Bool
-isPartial map t = ltb 0 map && ltb map (fullMap t)
+-- Whether each of the pieces 1 to t is held.
+unfoldable pub holdsAll : ℕ → ℕ → Bool
+holdsAll map zero = true
+holdsAll map (suc t) = holdsAll map t && holds map (suc t)
+
+-- "a map that is empty, full or marked past TBN". Empty: no piece is held.
+abbrev pub isEmpty : ℕ → Bool
+isEmpty map = eqb map 0
+
+-- Marked past t: some piece past t is held.
+abbrev pub markedPast : ℕ → ℕ → Bool
+markedPast map t = not (isEmpty (map / 2 ^ t))
+
+-- Full: each of the pieces 1 to t is held, and none past t.
+abbrev pub isFull : ℕ → ℕ → Bool
+isFull map t = holdsAll map t && not (markedPast map t)
 
 -- The map with piece c, from 1 to 64, as well.
 unfoldable pub marked : ℕ → ℕ → ℕ

@@ -1,17 +1,18 @@
 -- Laws of the map, and what the code's shifts say of its bits. Assumes nothing.
-use mathlib.Core.Path.{_≡_, refl, sym, ap, _∙_}
+use mathlib.Core.Path.{_≡_, refl, sym, ap, subst, _∙_}
 use mathlib.Core.Logic.{_≢_, ⊎-elim}
-use mathlib.Core.Bool.{false}
+use mathlib.Core.Bool.{Bool, true, false, not, _&&_, _||_}
 use Prim.Native.Nat.{ℕ, zero, suc, _+_, _-_, _*_, _/_, _%_, _^_, _≤_, _<_}
-use native.Mathlib.Nat.{div-one, min-zero, mod-eq-of-lt, one-mul}
+use native.Mathlib.Nat.{div-one, div-eq-of-lt, min-zero, mod-eq-of-lt, mod-lt, one-mul}
 use native.Mathlib.Numerals.{one-add}
 use native.Mathlib.Omega.{arith}
 use lib.Bits.{bitAnd, bitOr, and-step, and-zero-r, and-mask, or-disjoint}
 use lib.Count.{ones, ones-step, trailingZeros}
-use lib.Pow.{pow-pos, pow-mono, pow-lt, shr-shr, high, ones-split, ones-lt}
-use borrow.Author.Tests.{eqb-false, ne-eqb, le-leb}
-use Rattle.octets.specs.Split.{eq-or-ne}
-use Rattle.map.specs.Map.{bit, holds, pieceBit, fullMap, marked, lowest}
+use lib.Dec.{eqb, leb, ltb}
+use lib.Pow.{pow-pos, pow-mono, pow-lt, shr-shr, split, high, ones-split, ones-lt}
+use borrow.Author.Tests.{eqb-true, eqb-false, eq-eqb, ne-eqb, le-leb, lt-leb, leb-false, lt-ltb, le-ltb, not-true}
+use Rattle.octets.specs.Split.{lt-or-le, eq-or-ne, same-test, both, and-left, and-right}
+use Rattle.map.specs.Map.{bit, holds, pieceBit, fullMap, holdsAll, isEmpty, markedPast, isFull, marked, lowest}
 
 -- ---- bits
 
@@ -107,6 +108,89 @@ piece-some (suc n) m h some = ⊎-elim
     (λ (e : m % 2 ≡ 0). let r = piece-some n (m / 2) (omega arith) (omega arith) in (suc (r .0), omega (arith, r .1), r .2))
     (λ (e : m % 2 ≢ 0). (0, omega arith, omega arith))
     (eq-or-ne (m % 2) 0)
+
+-- ---- empty, full or marked past
+
+grows : (m : ℕ) → m < 2 ^ m
+grows zero = omega arith
+grows (suc m) = omega (arith, grows m)
+
+-- An empty map has no bit, and is the only one that has none.
+pub empty-none : (m : ℕ) → isEmpty m ≡ true → (k : ℕ) → bit k m ≡ 0
+empty-none m e k = rw (eqb-true m 0 e) (bit-zero k)
+
+pub none-empty : (m : ℕ) → ((k : ℕ) → bit k m ≡ 0) → isEmpty m ≡ true
+none-empty m f = ⊎-elim
+    (λ (e : m ≡ 0). eq-eqb m 0 e)
+    (λ (e : m ≢ 0). let r = piece-some m m (grows m) (omega arith) in absurd (omega (arith, r .2, f (r .0))))
+    (eq-or-ne m 0)
+
+-- A mark past t makes the map larger than any of t pieces,
+pub past-is : (m t : ℕ) → markedPast m t ≡ leb (2 ^ t) m
+past-is m t = ⊎-elim
+    (λ (h : m < 2 ^ t). rw (div-eq-of-lt h, lt-leb (2 ^ t) m h))
+    (λ (h : 2 ^ t ≤ m).
+    let some : m / 2 ^ t ≢ 0 = λ e. omega (arith, rw e at (split m t), mod-lt m (pow-pos t)) in
+    rw (ne-eqb (m / 2 ^ t) 0 some, le-leb (2 ^ t) m h))
+    (lt-or-le m (2 ^ t))
+
+-- and is a bit from t on.
+pub past-bit : (m t : ℕ) → markedPast m t ≡ true → (k : ℕ) × (t ≤ k) × (bit k m ≡ 1)
+past-bit m t e =
+    let rest = m / 2 ^ t in
+    let some : rest ≢ 0 = eqb-false rest 0 (not-true (isEmpty rest) e) in
+    let r = piece-some rest rest (grows rest) (omega arith) in
+    let k = r .0 in
+    let same : bit k rest ≡ bit (t + k) m = bit-shift k rest ∙ ap (λ (x : ℕ). x % 2) (shr-shr m t k) ∙ sym (bit-shift (t + k) m) in
+    (t + k, omega arith, sym same ∙ r .2)
+
+pub bit-past : (m t k : ℕ) → t ≤ k → bit k m ≡ 1 → markedPast m t ≡ true
+bit-past m t k h e = past-is m t ∙ ⊎-elim
+    (λ (l : m < 2 ^ t). absurd (omega (arith, bit-above t k m l h)))
+    (λ (l : 2 ^ t ≤ m). le-leb (2 ^ t) m l)
+    (lt-or-le m (2 ^ t))
+
+pub all-held : (m t : ℕ) → holdsAll m t ≡ true → (k : ℕ) → k < t → bit k m ≡ 1
+unfolding holdsAll
+all-held m zero e k h = absurd (omega arith)
+all-held m (suc t) e k h = ⊎-elim
+    (λ (l : k < t). all-held m t (and-left (holdsAll m t) (holds m (suc t)) e) k l)
+    (λ (l : t ≤ k). subst (λ (x : ℕ). bit x m ≡ 1) (omega arith) (eqb-true (bit (suc t - 1) m) 1 (and-right (holdsAll m t) (holds m (suc t)) e)))
+    (lt-or-le k t)
+
+pub held-all : (m t : ℕ) → ((k : ℕ) → k < t → bit k m ≡ 1) → holdsAll m t ≡ true
+unfolding holdsAll
+held-all m zero f = refl
+held-all m (suc t) f =
+    both (holdsAll m t) (holds m (suc t)) (held-all m t (λ k h. f k (omega arith))) (eq-eqb (bit (suc t - 1) m) 1 (f (suc t - 1) (omega arith)))
+
+-- One map is full.
+pub full-is : (m t : ℕ) → isFull m t ≡ eqb m (fullMap t)
+full-is m t = same-test (isFull m t) (eqb m (fullMap t))
+    (λ e.
+    let past : markedPast m t ≡ false = not-true (markedPast m t) (and-right (holdsAll m t) (not (markedPast m t)) e) in
+    let less : m < 2 ^ t = leb-false (2 ^ t) m (sym (past-is m t) ∙ past) in
+    eq-eqb m (fullMap t) (full-only t m less (all-held m t (and-left (holdsAll m t) (not (markedPast m t)) e))))
+    (λ e.
+    let z : m ≡ fullMap t = eqb-true m (fullMap t) e in
+    both (holdsAll m t) (not (markedPast m t))
+    (held-all m t (λ k h. ap (bit k) z ∙ full-bit t k h))
+    (rw (past-is m t, lt-leb (2 ^ t) m (omega (arith, pow-pos t)))))
+
+-- A map of t pieces is neither empty nor full nor marked past t exactly if it lies between 0 and the full one.
+pub partial-is : (m t : ℕ) → not (isEmpty m || isFull m t || markedPast m t) ≡ ltb 0 m && ltb m (fullMap t)
+partial-is m t = ap (λ (x : Bool). not (isEmpty m || x || markedPast m t)) (full-is m t)
+    ∙ ap (λ (x : Bool). not (isEmpty m || eqb m (fullMap t) || x)) (past-is m t) ∙ ⊎-elim
+    (λ (e : m ≡ 0). rw (eq-eqb m 0 e, le-ltb 0 m (omega arith)))
+    (λ (e : m ≢ 0). ⊎-elim
+    (λ (h : m < fullMap t).
+    rw (ne-eqb m 0 e, ne-eqb m (fullMap t) (λ z. omega arith), lt-leb (2 ^ t) m (omega arith), lt-ltb 0 m (omega arith), lt-ltb m (fullMap t) h))
+    (λ (h : fullMap t ≤ m). rw (ne-eqb m 0 e, lt-ltb 0 m (omega arith), le-ltb m (fullMap t) h) (⊎-elim
+    (λ (f : m ≡ fullMap t). rw (eq-eqb m (fullMap t) f))
+    (λ (f : m ≢ fullMap t). rw (ne-eqb m (fullMap t) f, le-leb (2 ^ t) m (omega (arith, pow-pos t))))
+    (eq-or-ne m (fullMap t))))
+    (lt-or-le m (fullMap t)))
+    (eq-or-ne m 0)
 
 -- ---- the code's words
 

@@ -1,9 +1,10 @@
 // The map of pieces held, a word of 64 bits: piece c at bit c - 1, bit 0 lowest.
 ghost use mathlib.Core.Path.{_≡_};
+ghost use mathlib.Core.Bool.{not, _||_};
 ghost use Prim.Native.Nat.{_+_, _-_, _^_, _≤_, _<_};
 ghost use lib.Count.{ones};
 ghost use lib.Dec.{eqb};
-ghost use Rattle.map.specs.Map.{bit, holds as holdsOf, fullMap, isPartial, marked as markedOf, lowestMissing};
+ghost use Rattle.map.specs.Map.{bit, holds as holdsOf, fullMap, isEmpty, isFull, markedPast, marked as markedOf, lowestMissing};
 
 pub fn holds(map: u64, c: u8) -> bool
     ensures { λ r. ⌜ r ≡ holdsOf map c ⌝ }
@@ -48,9 +49,9 @@ fn set_bit(map: u64, k: u8) -> u64
     map | (1u64 << k)
 }
 
-// Whether the map holds all of t pieces.
+// Whether the map holds all of t pieces, and none past them.
 pub fn is_full(map: u64, t: u8) -> bool
-    ensures { λ r. ⌜ r ≡ eqb map (fullMap t) ⌝ }
+    ensures { λ r. ⌜ r ≡ isFull map t ⌝ }
 {
     if 64 < t {
         return false;
@@ -58,9 +59,9 @@ pub fn is_full(map: u64, t: u8) -> bool
     map == full(t)
 }
 
-// Whether it holds some of them and not all, and none past them.
+// Whether it is neither empty nor full nor marked past t.
 pub fn is_partial(map: u64, t: u8) -> bool
-    ensures { λ r. ⌜ r ≡ isPartial map t ⌝ }
+    ensures { λ r. ⌜ r ≡ not (isEmpty map || isFull map t || markedPast map t) ⌝ }
 {
     if 64 < t {
         return 0 < map;

@@ -3,12 +3,11 @@
 //
 // Every public function is total: the record need not be within its limits.
 ghost use mathlib.Core.Path.{_≡_};
-ghost use mathlib.Core.Bool.{true, false};
+ghost use mathlib.Core.Bool.{true};
 ghost use mathlib.Core.List.{[], _∷_};
 ghost use Rattle.cut.specs.Possible.{possible as isPossible};
 ghost use Rattle.rules.specs.calls.Admit.{rejoins as isRejoining, sameCut, senderRows, mapAfter, droppedBy, lastBy, closed, messageOf, opened as isOpened, admitted, admission, verdictOf};
 ghost use Rattle.rules.specs.calls.First.{row, first};
-ghost use Rattle.map.specs.Map.{holds as holdsOf};
 use answers::Admission;
 use answers::Dropped;
 use answers::Outcome;
@@ -117,7 +116,7 @@ fn same_cut(m: Message, h: Head) -> bool
 // ---- what an admitted PDU does
 
 fn admitted_by(s: Sender, n1: u16, clock: u64, h: Head) -> Admission
-    requires { ⌜ (isPossible (h .cut) ≡ true) × (isRejoining s h ≡ true → holdsOf (s .message .map) (h .cut .cbn) ≡ false) ⌝ }
+    requires { ⌜ isPossible (h .cut) ≡ true ⌝ }
     ensures { λ r. ⌜ r ≡ admitted n1 clock s h ⌝ }
 {
     let cut = h.cut;
@@ -144,7 +143,6 @@ fn admitted_by(s: Sender, n1: u16, clock: u64, h: Head) -> Admission
 
 // The map of the message that the PDU belongs to, with its piece.
 fn map_after(s: Sender, h: Head) -> u64
-    requires { ⌜ (isPossible (h .cut) ≡ true) × (isRejoining s h ≡ true → holdsOf (s .message .map) (h .cut .cbn) ≡ false) ⌝ }
     ensures { λ r. ⌜ r ≡ mapAfter s h ⌝ }
 {
     let m = s.message;
@@ -155,12 +153,14 @@ fn map_after(s: Sender, h: Head) -> u64
     marked(0, cut.cbn)
 }
 
-// The open message, where the PDU belongs to another.
+// The open message, where the PDU has another version, or the same version and a larger number.
 fn dropped_by(s: Sender, h: Head) -> Dropped
     ensures { λ r. ⌜ r ≡ droppedBy s h ⌝ }
 {
-    if s.open & !rejoins(s, h) {
-        let m = s.message;
+    let m = s.message;
+    let given = h.given;
+    let same_version = m.version.0 == given.version.0;
+    if s.open & (!same_version | (same_version & newer(given.number, m.number))) {
         let version = m.version;
         let number = m.number;
         return Dropped { version, number };

@@ -9,7 +9,7 @@ use lib.ListN.{getD}
 use Rattle.ring.specs.Ring.{M, isNumber}
 use Rattle.header.specs.Codes.{within, isDataField, isNode, isUser}
 use Rattle.cut.specs.Possible.{severalPossible}
-use Rattle.map.specs.Map.{isPartial}
+use Rattle.map.specs.Map.{isEmpty, isFull, markedPast}
 use Rattle.state.specs.declared.Last.{Last}
 use Rattle.state.specs.declared.Message.{Message}
 use Rattle.state.specs.declared.Address.{Address}
@@ -42,7 +42,8 @@ lastWithin l = leb (l .number .0) M && (eqb (l .version .0) 0 || ltb 0 (l .numbe
 -- "an open message with an impossible cut or a map that is empty, full or marked past TBN"
 unfoldable pub messageWithin : ℕ → Message → Bool
 messageWithin clock m =
-    isNumber (m .number .0) && isUser (m .tcd) && severalPossible (m .n) (m .tbn) (m .u) && isPartial (m .map) (m .tbn) && leb (m .stamp) clock
+    isNumber (m .number .0) && isUser (m .tcd) && severalPossible (m .n) (m .tbn) (m .u)
+    && not (isEmpty (m .map) || isFull (m .map) (m .tbn) || markedPast (m .map) (m .tbn)) && leb (m .stamp) clock
 
 -- Of a sender, what is not open or not alive is not looked at.
 unfoldable pub senderWithin : ℕ → Sender → Bool

@@ -10,11 +10,12 @@ use lib.Dec.{eqb, leb, ltb}
 use lib.ListN.{length, getD, set, length-set, List·getD-eq-default}
 use lib.Seq.{getD-set-same, getD-set-other}
 use borrow.Author.Tests.{le-leb, leb-true, lt-ltb, ltb-true, eqb-true, not-true}
-use Rattle.octets.specs.Split.{lt-or-le, eq-or-ne, and-left, and-right}
+use Rattle.octets.specs.Split.{lt-or-le, eq-or-ne, both, and-left, and-right}
 use Rattle.ring.specs.Ring.{isNumber}
 use Rattle.header.specs.Codes.{isUser}
 use Rattle.cut.specs.Possible.{severalPossible}
-use Rattle.map.specs.Map.{fullMap}
+use Rattle.map.specs.Map.{fullMap, isEmpty, isFull, markedPast}
+use Rattle.map.specs.MapLaws.{partial-is}
 use Rattle.state.specs.declared.Address.{Address}
 use Rattle.state.specs.declared.Message.{Message}
 use Rattle.state.specs.declared.Sender.{Sender}
@@ -41,26 +42,30 @@ message-facts clock m e =
     let a1 = isNumber (m .number .0) in
     let a2 = isUser (m .tcd) in
     let a3 = severalPossible (m .n) (m .tbn) (m .u) in
+    let a4 = not (isEmpty (m .map) || isFull (m .map) (m .tbn) || markedPast (m .map) (m .tbn)) in
     let low = ltb 0 (m .map) in
     let high = ltb (m .map) (fullMap (m .tbn)) in
     let a5 = leb (m .stamp) clock in
-    let e4 = and-left (a1 && a2 && a3 && (low && high)) a5 e in
-    let e3 = and-left (a1 && a2 && a3) (low && high) e4 in
+    let e4 = and-left (a1 && a2 && a3 && a4) a5 e in
+    let e3 = and-left (a1 && a2 && a3) a4 e4 in
     let e2 = and-left (a1 && a2) a3 e3 in
-    let map = and-right (a1 && a2 && a3) (low && high) e4 in
+    let map = sym (partial-is (m .map) (m .tbn)) ∙ and-right (a1 && a2 && a3) a4 e4 in
     record {
       number = and-left a1 a2 e2;
       code = and-right a1 a2 e2;
       cut = and-right (a1 && a2) a3 e3;
       not-empty = ltb-true 0 (m .map) (and-left low high map);
       not-full = ltb-true (m .map) (fullMap (m .tbn)) (and-right low high map);
-      stamp = leb-true (m .stamp) clock (and-right (a1 && a2 && a3 && (low && high)) a5 e);
+      stamp = leb-true (m .stamp) clock (and-right (a1 && a2 && a3 && a4) a5 e);
     }
 
 pub message-of : (clock : ℕ) (m : Message) → MessageWithin clock m → messageWithin clock m ≡ true
 unfolding messageWithin
 message-of clock m f =
-    rw (f .number, f .code, f .cut, lt-ltb 0 (m .map) (f .not-empty), lt-ltb (m .map) (fullMap (m .tbn)) (f .not-full), le-leb (m .stamp) clock (f .stamp))
+    let low = ltb 0 (m .map) in
+    let high = ltb (m .map) (fullMap (m .tbn)) in
+    let map = partial-is (m .map) (m .tbn) ∙ both low high (lt-ltb 0 (m .map) (f .not-empty)) (lt-ltb (m .map) (fullMap (m .tbn)) (f .not-full)) in
+    rw (f .number, f .code, f .cut, map, le-leb (m .stamp) clock (f .stamp))
 
 -- Time going on keeps an open message within its limits.
 pub message-later : (clock now : ℕ) (m : Message) → clock ≤ now → messageWithin clock m ≡ true → messageWithin now m ≡ true

@@ -1,7 +1,7 @@
 -- What one sender's record makes of a PDU that has come as far as its sender: the numbers 15 to 20, and what an admitted PDU does
 -- (D.4.4; "we follow the prose").
-use Prim.Native.Nat.{ℕ, _+_}
-use mathlib.Core.Bool.{Bool, true, false, not, cond, _&&_}
+use Prim.Native.Nat.{ℕ}
+use mathlib.Core.Bool.{Bool, true, false, not, cond, _&&_, _||_}
 use mathlib.Core.List.{List, [], _∷_}
 use lib.Count.{ones}
 use lib.Dec.{eqb}
@@ -10,7 +10,7 @@ use Rattle.ring.specs.Check.{check, isRepeat, isUnchecked}
 use Rattle.ring.specs.Ring.{newer}
 use Rattle.header.specs.declared.Head.{Head}
 use Rattle.cut.specs.Possible.{possible, unit, messageLength}
-use Rattle.map.specs.Map.{holds, pieceBit, fullMap}
+use Rattle.map.specs.Map.{holds, marked, isFull}
 use Rattle.state.specs.declared.Last.{Last}
 use Rattle.state.specs.declared.Message.{Message}
 use Rattle.state.specs.declared.Sender.{Sender}
@@ -23,10 +23,13 @@ use Rattle.state.specs.State.{noMessage, joinedAs}
 
 -- ---- the open message and the PDU
 
+-- The version of the message that is open.
+abbrev pub sameVersion : Sender → Head → Bool
+sameVersion s h = eqb (s .message .version .0) (h .given .version .0)
+
 -- "Same version and number" as the open message's.
 unfoldable pub rejoins : Sender → Head → Bool
-rejoins s h =
-    s .«open» && eqb (s .message .version .0) (h .given .version .0) && eqb (s .message .number .0) (h .given .number .0)
+rejoins s h = s .«open» && sameVersion s h && eqb (s .message .number .0) (h .given .number .0)
 
 -- 19 compares "TCD, n, TBN or u".
 unfoldable pub sameCut : Message → Head → Bool
@@ -49,7 +52,7 @@ senderRows test n1 s h =
     -- "number check says repeat"
     ∷ row 17 (isRepeat (verdictOf n1 s h))
     -- "open message has the same version and a larger number"
-    ∷ row 18 (s .«open» && eqb (s .message .version .0) (h .given .version .0) && newer (s .message .number) (h .given .number))
+    ∷ row 18 (s .«open» && sameVersion s h && newer (s .message .number) (h .given .number))
     -- "same version and number, but TCD, n, TBN or u differ"
     ∷ row 19 (rejoins s h && not (sameCut (s .message) h))
     -- "piece already held (octets not compared)"
@@ -58,21 +61,26 @@ senderRows test n1 s h =
 
 -- ---- what an admitted PDU does
 
--- "nothing open, it opens"; another version or a larger number: "the new one opens". "Same version and number: a new piece is added."
+-- "nothing open, it opens"; another version or a larger number: "the new one opens".
+abbrev pub mapBefore : Sender → Head → ℕ
+mapBefore s h = cond (rejoins s h) (s .message .map) 0
+
+-- "Same version and number: a new piece is added."
 unfoldable pub mapAfter : Sender → Head → ℕ
-mapAfter s h = cond (rejoins s h) (s .message .map) 0 + pieceBit (h .cut .cbn)
+mapAfter s h = marked (mapBefore s h) (h .cut .cbn)
 
 -- "The message is delivered at the piece that fills the map, in whatever order pieces came"
 unfoldable pub fills : Sender → Head → Bool
-fills s h = eqb (mapAfter s h) (fullMap (h .cut .tbn))
+fills s h = isFull (mapAfter s h) (h .cut .tbn)
 
 abbrev pub noneDropped : Dropped
 noneDropped = record { version = record { 0 = 0 }; number = record { 0 = 0 } }
 
--- "the open message is dropped, its version and number stand in the answer (both 0 if none)"
+-- "Another version than the open one, or the same version and a larger number: the open message is dropped, its version and number stand
+-- in the answer (both 0 if none …)"
 unfoldable pub droppedBy : Sender → Head → Dropped
 droppedBy s h =
-    cond (s .«open» && not (rejoins s h))
+    cond (s .«open» && (not (sameVersion s h) || (sameVersion s h && newer (h .given .number) (s .message .number))))
     (record { version = s .message .version; number = s .message .number })
     noneDropped
 

@@ -1,19 +1,25 @@
 -- Laws of admission: what is known where no number of 15 to 20 applies. Assumes nothing.
 use mathlib.Core.Path.{_≡_, refl, sym, _∙_}
-use mathlib.Core.Bool.{Bool, true, false, not, cond, _&&_}
-use Prim.Native.Nat.{ℕ}
+use mathlib.Core.Bool.{Bool, true, false, not, cond, _&&_, _||_}
+use Prim.Native.Nat.{ℕ, _+_}
 use native.Mathlib.Omega.{arith}
 use lib.Dec.{eqb}
 use borrow.Author.Tests.{eq-eqb, ne-eqb, eqb-true, not-false}
 use Rattle.octets.specs.Split.{cond-case, never-both, and-left}
 use Rattle.ring.specs.Check.{isRepeat}
+use Rattle.ring.specs.Ring.{OnRing, newer}
+use Rattle.ring.specs.RingLaws.{Order, one-order}
+use Rattle.ring.specs.RingLaws.Order.{same, isNewer, isOlder}
 use Rattle.header.specs.declared.Head.{Head}
 use Rattle.cut.specs.Possible.{possible}
-use Rattle.map.specs.Map.{holds}
+use Rattle.cut.specs.PossibleLaws.{possible-facts, possible-most}
+use Rattle.map.specs.Map.{holds, pieceBit, fullMap}
+use Rattle.map.specs.MapLaws.{marked-adds, holds-zero, full-is}
 use Rattle.state.specs.declared.Sender.{Sender}
 use Rattle.answers.specs.declared.Admission.{Admission}
+use Rattle.answers.specs.declared.Dropped.{Dropped}
 use Rattle.answers.specs.declared.Outcome.{Outcome}
-use Rattle.rules.specs.calls.Admit.{rejoins, sameCut, verdictOf, senderRows, fills, admitted, notAdmitted, admission, refusedNumber}
+use Rattle.rules.specs.calls.Admit.{sameVersion, rejoins, sameCut, verdictOf, senderRows, mapBefore, mapAfter, fills, noneDropped, droppedBy, admitted, notAdmitted, admission, refusedNumber}
 use Rattle.rules.specs.calls.First.{first}
 use Rattle.rules.specs.calls.FirstLaws.{first-none}
 
@@ -22,6 +28,7 @@ use Rattle.rules.specs.calls.FirstLaws.{first-none}
 pub record Admitted (n1 : ℕ) (s : Sender) (h : Head) : Type 0 where
   pub cut-possible : possible (h .cut) ≡ true
   pub no-repeat : isRepeat (verdictOf n1 s h) ≡ false
+  pub not-older : s .«open» && sameVersion s h && newer (s .message .number) (h .given .number) ≡ false
   pub same-cut : rejoins s h ≡ true → sameCut (s .message) h ≡ true
   pub new-piece : rejoins s h ≡ true → holds (s .message .map) (h .cut .cbn) ≡ false
 
@@ -41,6 +48,7 @@ admitted-facts test n1 s h e =
     record {
       cut-possible = not-false (possible (h .cut)) (r16 .0);
       no-repeat = r17 .0;
+      not-older = r18 .0;
       same-cut = λ f. not-false (sameCut (s .message) h) (if-and (rejoins s h) (not (sameCut (s .message) h)) (r19 .0) f);
       new-piece = if-and (rejoins s h) (holds (s .message .map) (h .cut .cbn)) (r20 .0);
     }
@@ -52,6 +60,42 @@ rejoins-open s h e =
     let version = eqb (s .message .version .0) (h .given .version .0) in
     let number = eqb (s .message .number .0) (h .given .number .0) in
     and-left (s .«open») version (and-left (s .«open» && version) number e)
+
+-- The piece of an admitted PDU is added to those held.
+pub map-adds : (n1 : ℕ) (s : Sender) (h : Head) → Admitted n1 s h → mapAfter s h ≡ mapBefore s h + pieceBit (h .cut .cbn)
+unfolding mapAfter
+map-adds n1 s h a =
+    let c = h .cut .cbn in
+    let f = possible-facts (h .cut) (a .cut-possible) in
+    marked-adds (mapBefore s h) c (omega (arith, possible-most (h .cut) (a .cut-possible)))
+    (cond-case (λ (m : ℕ). holds m c ≡ false) (rejoins s h) (s .message .map) 0 (a .new-piece) (λ _. holds-zero c))
+
+pub fills-full : (s : Sender) (h : Head) → fills s h ≡ eqb (mapAfter s h) (fullMap (h .cut .tbn))
+unfolding fills
+fills-full s h = full-is (mapAfter s h) (h .cut .tbn)
+
+-- An admitted PDU drops the open message exactly if it does not belong to it.
+pub drops-or-joins : (n1 : ℕ) (s : Sender) (h : Head) → Admitted n1 s h → OnRing (s .message .number .0) → OnRing (h .given .number .0)
+    → droppedBy s h ≡ cond (s .«open» && not (rejoins s h)) (record { version = s .message .version; number = s .message .number }) noneDropped
+unfolding droppedBy rejoins
+drops-or-joins n1 s h a mine its = by (s .«open») (sameVersion s h) (a .not-older) (one-order (h .given .number) (s .message .number) its mine)
+  where
+    larger : Bool
+    larger = newer (h .given .number) (s .message .number)
+
+    equal : Bool
+    equal = eqb (s .message .number .0) (h .given .number .0)
+
+    dropped : Dropped
+    dropped = record { version = s .message .version; number = s .message .number }
+
+    by : (o v : Bool) → o && v && newer (s .message .number) (h .given .number) ≡ false → Order (h .given .number) (s .message .number)
+        → cond (o && (not v || (v && larger))) dropped noneDropped ≡ cond (o && not (o && v && equal)) dropped noneDropped
+    by false v e order = refl
+    by true false e order = refl
+    by true true e (same q f g) = rw (f, eq-eqb (s .message .number .0) (h .given .number .0) (sym q))
+    by true true e (isNewer n f g) = rw (f, ne-eqb (s .message .number .0) (h .given .number .0) (λ z. n (sym z)))
+    by true true e (isOlder n f g) = absurd (never-both g e)
 
 -- ---- the admission by its number
 

@@ -1,5 +1,5 @@
 -- What an admitted PDU makes of its sender's record is within its limits. Assumes nothing.
-use mathlib.Core.Path.{_≡_, refl}
+use mathlib.Core.Path.{_≡_, refl, sym, _∙_}
 use mathlib.Core.Logic.{_≢_}
 use mathlib.Core.Bool.{true, false, _&&_, false≢true}
 use Prim.Native.Nat.{ℕ, _+_, _-_, _^_, _<_}
@@ -19,7 +19,7 @@ use Rattle.map.specs.MapLaws.{bit-zero, set-below, holds-not}
 use Rattle.state.specs.declared.Last.{Last}
 use Rattle.state.specs.declared.Sender.{Sender}
 use Rattle.rules.specs.calls.Admit.{rejoins, sameCut, verdictOf, mapAfter, fills, lastBy, closed, messageOf, opened, senderAfter}
-use Rattle.rules.specs.calls.AdmitLaws.{Admitted, rejoins-open}
+use Rattle.rules.specs.calls.AdmitLaws.{Admitted, rejoins-open, map-adds, fills-full}
 use Rattle.state.specs.Limits.{lastWithin}
 use Rattle.state.specs.WithinLaws.{MessageWithin, message-facts, message-of, SenderWithin, Stays}
 
@@ -40,30 +40,27 @@ module _ (n1 clock : ℕ) (s : Sender) (h : Head) (a : Admitted n1 s h) where
 
   -- The map is not empty,
   map-some : 0 < mapAfter s h
-  unfolding mapAfter
-  map-some = omega (arith, pow-pos (h .cut .cbn - 1))
+  map-some = rw (map-adds n1 s h a) (omega (arith, pow-pos (h .cut .cbn - 1)))
 
   -- and nothing is "marked past TBN".
   map-most : SenderWithin clock s → mapAfter s h < 2 ^ (h .cut .tbn)
-  unfolding mapAfter
   map-most f =
       let p = possible-facts (h .cut) (a .cut-possible) in
       let t = h .cut .tbn in
       let c = h .cut .cbn in
-      cond-case (λ (m : ℕ). m + pieceBit c < 2 ^ t) (rejoins s h) (s .message .map) 0
+      rw (map-adds n1 s h a) (cond-case (λ (m : ℕ). m + pieceBit c < 2 ^ t) (rejoins s h) (s .message .map) 0
       (λ e.
       let o = message-facts clock (s .message) (f .message (rejoins-open s h e)) in
       let l : s .message .map < fullMap t = rw (same-tbn e) at (o .not-full) in
       set-below t (c - 1) (s .message .map) (omega arith) (omega arith) (holds-not (s .message .map) c (a .new-piece e)))
-      (λ _. set-below t (c - 1) 0 (omega arith) (pow-pos t) (bit-zero (c - 1)))
+      (λ _. set-below t (c - 1) 0 (omega arith) (pow-pos t) (bit-zero (c - 1))))
 
   module _ (number : isNumber (h .given .number .0) ≡ true) (code : isUser (h .given .tcd) ≡ true) where
     -- One piece always fills the map, so a message that stays open has several.
     open-within : SenderWithin clock s → fills s h ≡ false → MessageWithin clock (messageOf clock (mapAfter s h) h)
-    unfolding fills
     open-within f e =
         let t = h .cut .tbn in
-        let not-full = eqb-false (mapAfter s h) (fullMap t) e in
+        let not-full = eqb-false (mapAfter s h) (fullMap t) (sym (fills-full s h) ∙ e) in
         let several : t ≢ 1 = λ z.
         let two : 2 ^ t ≡ 2 = rw z in
         not-full (omega (arith, map-some, map-most f)) in

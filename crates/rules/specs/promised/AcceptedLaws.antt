@@ -24,7 +24,7 @@ use Rattle.state.specs.WithinLaws.{MessageWithin, message-facts}
 use Rattle.answers.specs.declared.Answer.{Answer}
 use Rattle.rules.specs.promised.Accepted.{isAccepted}
 use Rattle.rules.specs.calls.Admit.{rejoins, mapAfter, fills, heldAfter}
-use Rattle.rules.specs.calls.AdmitLaws.{Admitted, rejoins-open, admitted-zero}
+use Rattle.rules.specs.calls.AdmitLaws.{Admitted, rejoins-open, map-adds, fills-full, admitted-zero}
 use Rattle.rules.specs.promised.Join.{Kin}
 use Rattle.rules.specs.promised.JoinLaws.{kin-same}
 use Rattle.rules.specs.calls.Message.{messageNumber, messageAnswer, taken, refused}
@@ -57,12 +57,11 @@ module _ (n1 now : ℕ) (s : Sender) (packet : List ℕ) (a : Admitted n1 s (hea
         omega (arith, same, several-facts (m .n) (m .tbn) (m .u) (open-facts .cut) .two)
 
     two-held : 2 ≤ ones (mapAfter s h)
-    unfolding mapAfter
     two-held =
         let m = s .message .map in
         let clear : bit (h .cut .cbn - 1) m ≡ 0 = holds-not m (h .cut .cbn) (a .new-piece r) in
         let some : 1 ≤ ones m = ones-some (s .message .tbn) m (omega (arith, open-facts .not-full)) (open-facts .not-empty) in
-        rw r (omega (arith, ones-set (h .cut .cbn - 1) m clear))
+        rw (map-adds n1 s h a, r) (omega (arith, ones-set (h .cut .cbn - 1) m clear))
 
     rejoins-adds : opens ≡ false
     unfolding heldAfter
@@ -73,13 +72,11 @@ module _ (n1 now : ℕ) (s : Sender) (packet : List ℕ) (a : Admitted n1 s (hea
 
   module _ (r : rejoins s h ≡ false) where
     alone : mapAfter s h ≡ 0 + pieceBit (h .cut .cbn)
-    unfolding mapAfter
-    alone = rw r
+    alone = rw (map-adds n1 s h a, r)
 
     -- One piece does not fill a map of several.
     not-full : (j : ℕ) → j < h .cut .tbn → j ≢ h .cut .cbn - 1 → fills s h ≡ false
-    unfolding fills
-    not-full j less ne = ne-eqb (mapAfter s h) (fullMap (h .cut .tbn)) (λ z.
+    not-full j less ne = fills-full s h ∙ ne-eqb (mapAfter s h) (fullMap (h .cut .tbn)) (λ z.
         let one : bit j (fullMap (h .cut .tbn)) ≡ 1 = full-bit (h .cut .tbn) j less in
         let none : bit j (0 + pieceBit (h .cut .cbn)) ≡ 0 = bit-keep j (h .cut .cbn - 1) 0 (bit-zero (h .cut .cbn - 1)) ne ∙ bit-zero j in
         omega (arith, one, none, ap (bit j) (sym alone ∙ z)))

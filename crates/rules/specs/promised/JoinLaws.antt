@@ -27,8 +27,8 @@ use Rattle.state.specs.declared.Message.{Message}
 use Rattle.state.specs.declared.Sender.{Sender}
 use Rattle.state.specs.State.{Settings}
 use Rattle.state.specs.Limits.{clockMost}
-use Rattle.rules.specs.calls.Admit.{rejoins, sameCut, mapAfter, fills, messageOf, senderAfter, admitted}
-use Rattle.rules.specs.calls.AdmitLaws.{Admitted, admitted-facts, rejoins-open}
+use Rattle.rules.specs.calls.Admit.{rejoins, sameCut, mapBefore, mapAfter, fills, messageOf, senderAfter, admitted}
+use Rattle.rules.specs.calls.AdmitLaws.{Admitted, admitted-facts, rejoins-open, map-adds, fills-full}
 use Rattle.rules.specs.calls.Clock.{drops, aged}
 use Rattle.rules.specs.promised.Join.{Kin, kinOf, kinIn, numberIn, behind, Brought, OnePerNumber, Joined}
 use Rattle.rules.specs.calls.Message.{area, storageAfter}
@@ -116,9 +116,6 @@ kin-same s p e f =
     λ i. record { version = version i; number = number i; tcd = tcd i; n = n i; tbn = tbn i; u = u i }
 
 -- The map before the packet.
-abbrev mapBefore : Sender → Head → ℕ
-mapBefore s h = cond (rejoins s h) (s .message .map) 0
-
 abbrev packetsBefore : Sender → Head → List (List ℕ) → List (List ℕ)
 packetsBefore s h packets = cond (rejoins s h) packets []
 
@@ -239,12 +236,11 @@ module _ (packets : List (List ℕ)) (g : Settings) (v : View) (p : List ℕ) (i
   before = before-both packets v p (g .n1) inv a size
 
   map-is : mapAfter s head ≡ map₀ + pieceBit (numberIn p)
-  unfolding mapAfter
-  map-is = refl
+  map-is = map-adds (g .n1) s head a
 
   -- One piece fills the map at once.
   one-fills : head .cut .tbn ≡ 1 → fills s head ≡ true
-  unfolding fills bit
+  unfolding bit
   one-fills e =
       let f = possible-facts (head .cut) (a .cut-possible) in
       let z : numberIn p - 1 ≡ 0 = omega (arith, f .one, f .top) in
@@ -252,7 +248,7 @@ module _ (packets : List (List ℕ)) (g : Settings) (v : View) (p : List ℕ) (i
       let clear : bit 0 map₀ ≡ 0 = subst (λ (k : ℕ). bit k map₀ ≡ 0) z (before .clear) in
       let one : pieceBit (numberIn p) ≡ 1 = ap (λ (k : ℕ). 2 ^ k) z in
       let full : fullMap (head .cut .tbn) ≡ 1 = ap fullMap e in
-      eq-eqb (mapAfter s head) (fullMap (head .cut .tbn)) (map-is ∙ omega (arith, less, clear, one, full))
+      fills-full s head ∙ eq-eqb (mapAfter s head) (fullMap (head .cut .tbn)) (map-is ∙ omega (arith, less, clear, one, full))
 
   more-than-one : fills s head ≡ false → head .cut .tbn ≢ 1
   more-than-one f e = never-both (one-fills e) f
@@ -388,9 +384,9 @@ module _ (packets : List (List ℕ)) (g : Settings) (v : View) (p : List ℕ) (i
     filled-room = omega (arith, length-laid (v .octets) (piecePlace (kin .u) (numberIn p)) (behind p), inv .room, parts-facts .big)
 
     all-in : (c : ℕ) → 1 ≤ c → c ≤ kin .tbn → bit (c - 1) (mapBefore (v .sender) (headOf p) + pieceBit (numberIn p)) ≡ 1
-    unfolding fills mapAfter
     all-in c low top =
-        let e : mapBefore (v .sender) (headOf p) + pieceBit (numberIn p) ≡ fullMap (kin .tbn) = eqb-true _ _ full in
+        let e : mapBefore (v .sender) (headOf p) + pieceBit (numberIn p) ≡ fullMap (kin .tbn)
+        = sym (map-adds (g .n1) (v .sender) (headOf p) a) ∙ eqb-true (mapAfter (v .sender) (headOf p)) (fullMap (kin .tbn)) (sym (fills-full (v .sender) (headOf p)) ∙ full) in
         ap (bit (c - 1)) e ∙ full-bit (kin .tbn) (c - 1) (omega arith)
 
     length-out : length out ≡ kin .n

@@ -21,7 +21,7 @@ use Rattle.header.specs.Layout.{layout, tabulate, octetOf}
 use Rattle.cut.specs.Cutter.{pdu}
 use Rattle.cut.specs.Pieces.{mostOctets, pieces, pieceLength, piece}
 use Rattle.cut.specs.Possible.{unit, isUnit, frontPossible, lastPossible, severalPossible, possible}
-use Rattle.map.specs.Map.{bit}
+use Rattle.map.specs.Map.{bit, holdsAll, marked}
 use Rattle.state.specs.declared.Address.{Address}
 use Rattle.state.specs.Limits.{lastWithin, messageWithin, senderWithin, newAmong, addressesWithin, addressAt, sendersWithin, settingsOf, valid}
 use Rattle.state.specs.State.{senderAt, firstWhere}
@@ -156,7 +156,7 @@ unfolding
     lastWithin messageWithin senderWithin newAmong addressesWithin sendersWithin settingsOf valid
     setupWithin newSenders setupState setupAnswer inOrder isFrom isOpen
     first headWithin messageRows messageAnswer taken refused withSender messageStorage storageAfter storedPart
-    senderRows admitted rejoins sameCut mapAfter fills senderAfter
+    senderRows admitted rejoins sameCut holdsAll marked mapAfter fills senderAfter
     clockAnswer ticked agedSenders aged mapWhere
 row e = record {
   is-piece = ite (dec-piece (sent e) (e .piece) (packet e)) true false;

@@ -133,7 +133,7 @@ module _ (g : Settings) (m : Sent) (k : Cuttable m) (admits : eqb (m .mode) 1 &&
           (λ j less. subst (λ (x : ℕ). bit x grown ≡ 1) (omega arith) (grown-held (j + 1) (omega arith, omega arith) (all (j + 1) (omega arith, omega arith))))
 
       fills-by : fills s h ≡ eqb grown (fullMap (count m))
-      fills-by = fills-is (g .test) (g .n1) m k admits s c p is
+      fills-by = fills-is (g .test) (g .n1) m k admits s c p is clear
 
       -- The last missing piece.
       finishes : grown ≡ fullMap (count m) → Finished m With (closed s (lastBy (verdictOf (g .n1) s h) s h))
@@ -146,7 +146,7 @@ module _ (g : Settings) (m : Sent) (k : Cuttable m) (admits : eqb (m .mode) 1 &&
       goes-on : grown ≢ fullMap (count m) → Unfinished m last With (opened s (messageOf (v .now) (mapAfter s h) h))
       unfolding isOpen
       goes-on ne =
-          let after : mapAfter s h ≡ grown = map-is (g .test) (g .n1) m k admits s c p is in
+          let after : mapAfter s h ≡ grown = map-is (g .test) (g .n1) m k admits s c p is clear in
           let version = eq-eqb (h .given .version .0) (m .version .0) (is .version) in
           let number = eq-eqb (h .given .number .0) (m .number .0) (is .number) in
           record {

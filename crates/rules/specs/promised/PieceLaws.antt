@@ -22,14 +22,15 @@ use Rattle.header.specs.Places.{headerSize}
 use Rattle.cut.specs.Cutter.{cutFor}
 use Rattle.cut.specs.CutterLaws.{Within, length-piece, unit-same, cut-possible, cut-same}
 use Rattle.cut.specs.Pieces.{mostOctets, leastUnit, mostUnit, piece}
-use Rattle.cut.specs.PiecesLaws.{pieces-one, pieces-some}
+use Rattle.cut.specs.PiecesLaws.{pieces-one, pieces-some, pieces-most}
 use Rattle.cut.specs.Possible.{possible, messageLength, ownLength, unit, isUnit}
 use Rattle.map.specs.Map.{holds, pieceBit, fullMap}
-use Rattle.map.specs.MapLaws.{holds-zero}
+use Rattle.map.specs.MapLaws.{holds-zero, marked-adds}
 use Rattle.state.specs.declared.Message.{Message}
 use Rattle.state.specs.declared.Sender.{Sender}
 use Rattle.rules.specs.calls.Admit.{rejoins, sameCut, verdictOf, senderRows, mapAfter, fills}
 use Rattle.rules.specs.promised.Delivery.{Sent, count, Numbered, PieceOf, isOpen, verdictFor}
+use Rattle.rules.specs.calls.AdmitLaws.{fills-full}
 use Rattle.rules.specs.calls.First.{first}
 use Rattle.rules.specs.promised.Join.{Kin, kinOf, kinIn, numberIn, behind}
 use Rattle.rules.specs.calls.Message.{lengthWrong, headWithin}
@@ -171,10 +172,11 @@ module _ (test : Bool) (n1 : ℕ) (m : Sent) (k : Cuttable m) (admits : eqb (m .
       (λ (o : isOpen m s ≡ false). rw (o, holds-zero c))
       (true-or-false (isOpen m s)))
 
-  pub map-is : mapAfter s h ≡ mapOf m s + pieceBit c
+  pub map-is : holds (mapOf m s) c ≡ false → mapAfter s h ≡ mapOf m s + pieceBit c
   unfolding mapAfter
-  map-is = rw (rejoins-is, number-is)
+  map-is clear =
+      let most : count m ≤ 64 = pieces-most (length (m .octets)) (m .u) (k .most) (least m k) in
+      rw (rejoins-is, number-is) (marked-adds (mapOf m s) c (omega (arith, is .numbered .1)) clear)
 
-  pub fills-is : fills s h ≡ eqb (mapOf m s + pieceBit c) (fullMap (count m))
-  unfolding fills
-  fills-is = rw (map-is, ap (λ (x : Kin). x .tbn) (piece-kin m k c p is))
+  pub fills-is : holds (mapOf m s) c ≡ false → fills s h ≡ eqb (mapOf m s + pieceBit c) (fullMap (count m))
+  fills-is clear = fills-full s h ∙ rw (map-is clear, ap (λ (x : Kin). x .tbn) (piece-kin m k c p is))

@@ -19,7 +19,7 @@ admitted-by-requires : tie.Need-admitted-by-requires
 admitted-by-requires c κs =
     let a = c .before .before .args in
     let f = admitted-facts (a .test) (a .n1) (a .s) (a .h) (sym (c .before .refusal .ensures) ∙ c .if1 .left) in
-    (f .cut-possible, f .new-piece)
+    f .cut-possible
 
 returns-2 : tie.Need-returns-2
 returns-2 c =

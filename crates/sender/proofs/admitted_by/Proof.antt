@@ -1,5 +1,6 @@
 -- Each part is that of the definition. Assumes nothing.
-use mathlib.Core.Path.{sym, _∙_}
+use mathlib.Core.Path.{_≡_, sym, _∙_}
+use mathlib.Core.Bool.{true, false}
 use native.Mathlib.Omega.{arith}
 use lib.Count.{ones-le}
 use Rattle.rules.specs.calls.Admit.{admitted, fills, heldAfter, senderAfter}
@@ -23,12 +24,13 @@ delivered-requires : tie.Need-delivered-requires
 delivered-requires c κs = search needs
 
 returns : tie.Need-returns
-unfolding admitted fills heldAfter senderAfter
+unfolding admitted heldAfter senderAfter
 returns c =
     let full = c .before .before in
     let map = full .before .before .before in
-    let f = sym (full .before .is-full .ensures) ∙ full .if1 .taken in
-    simp (rw (map .map-after .ensures) at f, c .delivered .ensures, c .before .verdict .ensures, full .before .before .dropped-by .ensures)
+    let a = map .before .before .args in
+    let f : fills (a .s) (a .h) ≡ true = unfold fills in (rw (map .map-after .ensures) at (sym (full .before .is-full .ensures) ∙ full .if1 .taken)) in
+    simp (f, c .delivered .ensures, c .before .verdict .ensures, full .before .before .dropped-by .ensures)
 
 opened-requires : tie.Need-opened-requires
 opened-requires c κs = search needs
@@ -40,12 +42,13 @@ cast-t15 : tie.Need-cast-t15
 cast-t15 c = omega (arith, c .held .ensures, ones-le 64 (c .before .before .before .before .before .map-after .result) (omega arith))
 
 returns-2 : tie.Need-returns-2
-unfolding admitted fills heldAfter senderAfter
+unfolding admitted heldAfter senderAfter
 returns-2 c =
     let partial = c .before .before in
     let map = partial .before .before .before in
-    let f = sym (partial .before .is-full .ensures) ∙ partial .if1 .left in
-    simp (rw (map .map-after .ensures) at f, c .held .ensures, c .before .opened .ensures, partial .before .before .dropped-by .ensures, map .map-after .ensures)
+    let a = map .before .before .args in
+    let f : fills (a .s) (a .h) ≡ false = unfold fills in (rw (map .map-after .ensures) at (sym (partial .before .is-full .ensures) ∙ partial .if1 .left)) in
+    simp (f, c .held .ensures, c .before .opened .ensures, partial .before .before .dropped-by .ensures, map .map-after .ensures)
 
 pub admitted-by-spec : {M : Type 1} → statement M
 admitted-by-spec =
