@@ -1,6 +1,6 @@
-// What the calls take and answer. 01's number for each case of an enum is `outcomeNumber` of specs/Admit.antt, `callNumber` of
-// specs/Setup.antt and `missingNumber` of specs/Question.antt.
-
+// What the calls take and answer, and beside each enum its number and values in this paper, as specs/Told.antt lists them for each case.
+ghost use mathlib.Core.Path.{_≡_};
+ghost use Rattle.answers.specs.Told.{outcomeTold, refusedNumber, callNumber, questionTold};
 use ring::Number;
 use ring::Verdict;
 use ring::Version;
@@ -14,6 +14,51 @@ pub enum Outcome {
     Refused(u8),
     Stored,
     Delivered(Verdict),
+}
+
+impl Outcome {
+    pub fn number(self) -> u8
+        ensures { λ r. ⌜ r ≡ outcomeTold self .number ⌝ }
+    {
+        match self {
+            Outcome::Refused(number) => number,
+            Outcome::Stored => 0,
+            Outcome::Delivered(_) => 1,
+        }
+    }
+
+    // The number of a refusal, 0 where there is none.
+    pub fn refusal(self) -> u8
+        ensures { λ r. ⌜ r ≡ refusedNumber self ⌝ }
+    {
+        match self {
+            Outcome::Refused(number) => number,
+            Outcome::Stored => 0,
+            Outcome::Delivered(_) => 0,
+        }
+    }
+
+    // 0 where nothing is delivered.
+    pub fn verdict(self) -> u8
+        ensures { λ r. ⌜ r ≡ outcomeTold self .verdict ⌝ }
+    {
+        match self {
+            Outcome::Refused(_) => 0,
+            Outcome::Stored => 0,
+            Outcome::Delivered(verdict) => verdict.printed(),
+        }
+    }
+
+    // How many numbers were skipped.
+    pub fn skipped(self) -> u32
+        ensures { λ r. ⌜ r ≡ outcomeTold self .skipped ⌝ }
+    {
+        match self {
+            Outcome::Refused(_) => 0,
+            Outcome::Stored => 0,
+            Outcome::Delivered(verdict) => verdict.skipped(),
+        }
+    }
 }
 
 // Where a delivered message lies.
@@ -68,8 +113,19 @@ pub struct Setup {
 // What became of a call that takes no message.
 pub enum Call {
     Done,
-    // with 01's number
+    // with 01's number, 9 or more
     Refused(u8),
+}
+
+impl Call {
+    pub fn number(self) -> u8
+        ensures { λ r. ⌜ r ≡ callNumber self ⌝ }
+    {
+        match self {
+            Call::Done => 0,
+            Call::Refused(number) => number,
+        }
+    }
 }
 
 // What setup answers.
@@ -86,11 +142,60 @@ pub struct Noted {
 
 // What the question answers.
 pub enum Missing {
-    // with 01's number
+    // with 01's number, 9 or more
     Refused(u8),
     NoneOpen,
     // the sender's place in the table, from 0, and its lowest missing piece, from 1
     Piece { sender: u8, piece: u8 },
+}
+
+impl Missing {
+    pub fn number(self) -> u8
+        ensures { λ r. ⌜ r ≡ questionTold self .number ⌝ }
+    {
+        match self {
+            Missing::Refused(number) => number,
+            Missing::NoneOpen => 0,
+            Missing::Piece {
+                sender: _,
+                piece: _,
+            } => 0,
+        }
+    }
+
+    pub fn is_open(self) -> bool
+        ensures { λ r. ⌜ r ≡ questionTold self .«open» ⌝ }
+    {
+        match self {
+            Missing::Refused(_) => false,
+            Missing::NoneOpen => false,
+            Missing::Piece {
+                sender: _,
+                piece: _,
+            } => true,
+        }
+    }
+
+    // 0 where none is open.
+    pub fn sender(self) -> u8
+        ensures { λ r. ⌜ r ≡ questionTold self .sender ⌝ }
+    {
+        match self {
+            Missing::Refused(_) => 0,
+            Missing::NoneOpen => 0,
+            Missing::Piece { sender, piece: _ } => sender,
+        }
+    }
+
+    pub fn piece(self) -> u8
+        ensures { λ r. ⌜ r ≡ questionTold self .piece ⌝ }
+    {
+        match self {
+            Missing::Refused(_) => 0,
+            Missing::NoneOpen => 0,
+            Missing::Piece { sender: _, piece } => piece,
+        }
+    }
 }
 
 // What the clock call answers: which messages were dropped and which senders died, first sender lowest.

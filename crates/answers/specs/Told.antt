@@ -1,0 +1,161 @@
+-- "If an answer is an enum, a definition lists this paper's number and values for each of its cases": one for each call, but the cutter's, which
+-- stands beside it in `cut`.
+use Prim.Native.Nat.{ℕ, _≤_}
+use mathlib.Core.Path.{_≡_}
+use mathlib.Core.Bool.{Bool, true, false}
+use Rattle.ring.specs.declared.Verdict.{Verdict}
+use Rattle.ring.specs.Check.{verdictNumber, verdictSkipped}
+use Rattle.answers.specs.declared.Answer.{Answer}
+use Rattle.answers.specs.declared.Call.{Call}
+use Rattle.answers.specs.declared.Call.the-variants as call
+use Rattle.answers.specs.declared.Missing.{Missing}
+use Rattle.answers.specs.declared.Missing.the-variants as missing
+use Rattle.answers.specs.declared.Outcome.{Outcome}
+use Rattle.answers.specs.declared.Outcome.the-variants as outcome
+use Rattle.answers.specs.declared.Ticked.{Ticked}
+use Rattle.answers.specs.declared.Where.{Where}
+use Rattle.answers.specs.declared.Where.the-variants as place
+
+-- ---- refusals
+
+-- The numbers of refusals begin at 9: "0 stored, done or written; 1 delivered".
+abbrev pub leastRefusal : ℕ
+leastRefusal = 9
+
+-- The number that was told is k, and a refusal's.
+abbrev pub RefusedAs : (told k : ℕ) → Type 0
+RefusedAs told k = (told ≡ k) × (leastRefusal ≤ k)
+
+-- ---- the message call: the outcome
+
+pub record OutcomeTold : Type 0 where
+  pub number : ℕ
+  pub verdict : ℕ
+  -- how many numbers were skipped
+  pub skipped : ℕ
+
+-- "Verdicts: …, 0 where nothing is delivered."
+abbrev pub notDelivered : ℕ → OutcomeTold
+notDelivered k = record { number = k; verdict = 0; skipped = 0 }
+
+-- "1 delivered. Verdicts: 1 first, 2 next, 3 restart, 4 gap, 5 unchecked"; "gap, with (SEQ − R − 1) modulo M numbers skipped"
+abbrev pub deliveredAs : Verdict → OutcomeTold
+deliveredAs v = record { number = 1; verdict = verdictNumber v; skipped = verdictSkipped v }
+
+-- "0 stored …; 1 delivered", and for a refusal its number.
+abbrev pub outcomeTold : Outcome → OutcomeTold
+outcomeTold (outcome.Refused k) = notDelivered k
+outcomeTold outcome.Stored = notDelivered 0
+outcomeTold (outcome.Delivered v) = deliveredAs v
+
+-- The number of a refusal, 0 where there is none.
+abbrev pub refusedNumber : Outcome → ℕ
+refusedNumber (outcome.Refused k) = k
+refusedNumber outcome.Stored = 0
+refusedNumber (outcome.Delivered v) = 0
+
+abbrev pub outcomeRefused : Outcome → Bool
+outcomeRefused (outcome.Refused k) = true
+outcomeRefused outcome.Stored = false
+outcomeRefused (outcome.Delivered v) = false
+
+-- ---- the message call: what is handed over
+
+-- "handed over as a part of the packet or of the storage": of neither (0), the packet (1) or the storage (2). This paper has no number for it.
+pub record PlaceTold : Type 0 where
+  pub slice : ℕ
+  pub start : ℕ
+  pub length : ℕ
+
+-- "a one-piece message comes back as the part of the lent packet behind its header", so neither start nor length is told of it;
+-- "any other answer gives an empty part".
+abbrev pub placeTold : Where → PlaceTold
+placeTold place.Nothing = record { slice = 0; start = 0; length = 0 }
+placeTold place.Packet = record { slice = 1; start = 0; length = 0 }
+placeTold (place.Storage start length) = record { slice = 2; start = start; length = length }
+
+-- ---- the message call: all of it
+
+pub record MessageTold : Type 0 where
+  pub outcome : OutcomeTold
+  -- "pieces then held for the PDU's sender, 0 on a refusal"
+  pub held : ℕ
+  -- "its version and number stand in the answer (both 0 if none)"
+  pub droppedVersion : ℕ
+  pub droppedNumber : ℕ
+  pub place : PlaceTold
+
+abbrev pub messageTold : Answer → MessageTold
+messageTold a = record {
+  outcome = outcomeTold (a .outcome);
+  held = a .held;
+  droppedVersion = a .dropped .version .0;
+  droppedNumber = a .dropped .number .0;
+  place = placeTold (a .place);
+}
+
+-- "nothing more"
+abbrev pub messageRefused : ℕ → MessageTold
+messageRefused k = record {
+  outcome = notDelivered k;
+  held = 0;
+  droppedVersion = 0;
+  droppedNumber = 0;
+  place = placeTold place.Nothing;
+}
+
+-- ---- setup and the alive call: "S answer", "A answer"
+
+-- "0 stored, done or written"
+abbrev pub callNumber : Call → ℕ
+callNumber call.Done = 0
+callNumber (call.Refused k) = k
+
+-- ---- the clock call: "C answer, dropped map, dead map"
+
+pub record ClockTold : Type 0 where
+  pub number : ℕ
+  pub dropped : ℕ
+  pub dead : ℕ
+
+abbrev pub clockTold : Ticked → ClockTold
+clockTold a = record { number = callNumber (a .call); dropped = a .dropped; dead = a .dead }
+
+-- "(both 0 on a refusal)"
+abbrev pub clockRefused : ℕ → ClockTold
+clockRefused k = record { number = k; dropped = 0; dead = 0 }
+
+-- ---- the question: "The answer is sender and piece, or "none open"."
+
+pub record QuestionTold : Type 0 where
+  pub number : ℕ
+  -- whether a message is open
+  pub «open» : Bool
+  pub sender : ℕ
+  pub piece : ℕ
+
+abbrev pub noneOpen : ℕ → QuestionTold
+noneOpen k = record { number = k; «open» = false; sender = 0; piece = 0 }
+
+abbrev pub questionTold : Missing → QuestionTold
+questionTold (missing.Refused k) = noneOpen k
+questionTold missing.NoneOpen = noneOpen 0
+questionTold (missing.Piece i c) = record { number = 0; «open» = true; sender = i; piece = c }
+
+-- ---- what the numbers tell
+
+-- A refusal has a refusal's number, and a delivery a verdict of 1 to 5: the verdict is "0 where nothing is delivered", and there alone. No two
+-- such answers are told alike (ToldLaws).
+abbrev pub OutcomeTells : Outcome → Type 0
+OutcomeTells (outcome.Refused k) = leastRefusal ≤ k
+OutcomeTells outcome.Stored = Unit {0}
+OutcomeTells (outcome.Delivered v) = 1 ≤ verdictNumber v
+
+abbrev pub CallTells : Call → Type 0
+CallTells call.Done = Unit {0}
+CallTells (call.Refused k) = leastRefusal ≤ k
+
+abbrev pub MissingTells : Missing → Type 0
+MissingTells (missing.Refused k) = leastRefusal ≤ k
+MissingTells missing.NoneOpen = Unit {0}
+MissingTells (missing.Piece i c) = Unit {0}

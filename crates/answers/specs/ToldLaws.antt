@@ -1,0 +1,125 @@
+-- What is told tells the answer: each answer is read back from its number and values, so no other is told alike. Assumes nothing.
+use Prim.Native.Nat.{ℕ}
+use mathlib.Core.Path.{_≡_, refl, sym, ap, _∙_}
+use mathlib.Core.Bool.{cond}
+use native.Mathlib.Omega.{arith}
+use lib.Dec.{eqb}
+use borrow.Author.Tests.{ne-eqb}
+use Rattle.ring.specs.declared.Verdict.{Verdict}
+use Rattle.ring.specs.declared.Verdict.the-variants.{Unchecked, First, Restart, Repeat, Next, Gap}
+use Rattle.ring.specs.Check.{verdictNumber, verdictSkipped}
+use Rattle.state.specs.declared.Receiver.{Receiver}
+use Rattle.answers.specs.declared.Answer.{Answer}
+use Rattle.answers.specs.declared.Call.{Call}
+use Rattle.answers.specs.declared.Call.the-variants as call
+use Rattle.answers.specs.declared.Missing.{Missing}
+use Rattle.answers.specs.declared.Missing.the-variants as missing
+use Rattle.answers.specs.declared.Outcome.{Outcome}
+use Rattle.answers.specs.declared.Outcome.the-variants as outcome
+use Rattle.answers.specs.declared.Where.{Where}
+use Rattle.answers.specs.declared.Where.the-variants as place
+use Rattle.answers.specs.Told.{RefusedAs, OutcomeTold, outcomeTold, PlaceTold, placeTold, MessageTold, messageTold, callNumber, QuestionTold, questionTold, OutcomeTells, CallTells, MissingTells}
+
+-- ---- a refusal's number is told by no other case
+
+pub refused-outcome : (o : Outcome) (k : ℕ) → RefusedAs (outcomeTold o .number) k → o ≡ outcome.Refused k
+refused-outcome (outcome.Refused j) k r = ap outcome.Refused (r .0)
+refused-outcome outcome.Stored k r = absurd (omega (arith, r .0, r .1))
+refused-outcome (outcome.Delivered v) k r = absurd (omega (arith, r .0, r .1))
+
+pub refused-call : (c : Call) (k : ℕ) → RefusedAs (callNumber c) k → c ≡ call.Refused k
+refused-call call.Done k r = absurd (omega (arith, r .0, r .1))
+refused-call (call.Refused j) k r = ap call.Refused (r .0)
+
+pub refused-missing : (m : Missing) (k : ℕ) → RefusedAs (questionTold m .number) k → m ≡ missing.Refused k
+refused-missing (missing.Refused j) k r = ap missing.Refused (r .0)
+refused-missing missing.NoneOpen k r = absurd (omega (arith, r .0, r .1))
+refused-missing (missing.Piece i c) k r = absurd (omega (arith, r .0, r .1))
+
+-- ---- the outcome, read back
+
+verdictFrom : ℕ → ℕ → Verdict
+verdictFrom n k =
+    cond (eqb n 1) First (cond (eqb n 2) Next (cond (eqb n 3) Restart (cond (eqb n 4) (Gap k) (cond (eqb n 5) Unchecked Repeat))))
+
+verdict-back : (v : Verdict) → verdictFrom (verdictNumber v) (verdictSkipped v) ≡ v
+unfolding verdictFrom
+verdict-back Unchecked = refl
+verdict-back First = refl
+verdict-back Restart = refl
+verdict-back Repeat = refl
+verdict-back Next = refl
+verdict-back (Gap k) = refl
+
+outcomeFrom : OutcomeTold → Outcome
+outcomeFrom t =
+    cond (eqb (t .number) 0) outcome.Stored
+    (cond (eqb (t .number) 1) (outcome.Delivered (verdictFrom (t .verdict) (t .skipped))) (outcome.Refused (t .number)))
+
+outcome-back : (o : Outcome) → OutcomeTells o → outcomeFrom (outcomeTold o) ≡ o
+unfolding outcomeFrom
+outcome-back (outcome.Refused k) t = rw (ne-eqb k 0 (λ z. omega (arith, t)), ne-eqb k 1 (λ z. omega (arith, t)))
+outcome-back outcome.Stored t = refl
+outcome-back (outcome.Delivered v) t = ap outcome.Delivered (verdict-back v)
+
+pub one-outcome : (a b : Outcome) → OutcomeTells a → OutcomeTells b → outcomeTold a ≡ outcomeTold b → a ≡ b
+one-outcome a b s t e = sym (outcome-back a s) ∙ ap outcomeFrom e ∙ outcome-back b t
+
+-- "1 delivered"
+pub delivered-outcome : (o : Outcome) → OutcomeTells o → outcomeTold o .number ≡ 1 → (v : Verdict) × (o ≡ outcome.Delivered v)
+delivered-outcome (outcome.Refused k) t e = absurd (omega (arith, t, e))
+delivered-outcome outcome.Stored t e = absurd (omega (arith, e))
+delivered-outcome (outcome.Delivered v) t e = (v, refl)
+
+-- ---- the message call's answer, read back
+
+placeFrom : PlaceTold → Where
+placeFrom t = cond (eqb (t .slice) 0) place.Nothing (cond (eqb (t .slice) 1) place.Packet (place.Storage (t .start) (t .length)))
+
+place-back : (p : Where) → placeFrom (placeTold p) ≡ p
+unfolding placeFrom
+place-back place.Nothing = refl
+place-back place.Packet = refl
+place-back (place.Storage start length) = refl
+
+answerFrom : MessageTold → Receiver → Answer
+answerFrom t w = record {
+  outcome = outcomeFrom (t .outcome);
+  held = t .held;
+  dropped = record { version = record { 0 = t .droppedVersion }; number = record { 0 = t .droppedNumber } };
+  place = placeFrom (t .place);
+  state = w;
+}
+
+answer-back : (a : Answer) → OutcomeTells (a .outcome) → answerFrom (messageTold a) (a .state) ≡ a
+unfolding answerFrom
+answer-back a t = rw (outcome-back (a .outcome) t, place-back (a .place))
+
+-- With the state, all of it is told.
+pub one-answer : (a b : Answer) → OutcomeTells (a .outcome) → OutcomeTells (b .outcome) → messageTold a ≡ messageTold b → a .state ≡ b .state → a ≡ b
+one-answer a b s t e f = sym (answer-back a s) ∙ rw (e, f) (answer-back b t)
+
+-- ---- the other calls
+
+callFrom : ℕ → Call
+callFrom k = cond (eqb k 0) call.Done (call.Refused k)
+
+call-back : (c : Call) → CallTells c → callFrom (callNumber c) ≡ c
+unfolding callFrom
+call-back call.Done t = refl
+call-back (call.Refused k) t = rw (ne-eqb k 0 (λ z. omega (arith, t)))
+
+pub one-call : (a b : Call) → CallTells a → CallTells b → callNumber a ≡ callNumber b → a ≡ b
+one-call a b s t e = sym (call-back a s) ∙ ap callFrom e ∙ call-back b t
+
+missingFrom : QuestionTold → Missing
+missingFrom t = cond (eqb (t .number) 0) (cond (t .«open») (missing.Piece (t .sender) (t .piece)) missing.NoneOpen) (missing.Refused (t .number))
+
+missing-back : (m : Missing) → MissingTells m → missingFrom (questionTold m) ≡ m
+unfolding missingFrom
+missing-back (missing.Refused k) t = rw (ne-eqb k 0 (λ z. omega (arith, t)))
+missing-back missing.NoneOpen t = refl
+missing-back (missing.Piece i c) t = refl
+
+pub one-missing : (a b : Missing) → MissingTells a → MissingTells b → questionTold a ≡ questionTold b → a ≡ b
+one-missing a b s t e = sym (missing-back a s) ∙ ap missingFrom e ∙ missing-back b t
