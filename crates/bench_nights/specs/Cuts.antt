@@ -4,7 +4,7 @@ use mathlib.Core.List.{List}
 use lib.ListN.{length}
 use Rattle.header.specs.declared.Given.{Given}
 use Rattle.cut.specs.declared.cutter.Cutting.{Cutting}
-use Rattle.cut.specs.Cutter.{cutterAnswer, cutterBuffer, cuttingNumber, cuttingLength}
+use Rattle.cut.specs.Cutter.{cutterAnswer, cutterBuffer, cutterTold}
 
 -- The header values of the first sender's message with this number.
 abbrev pub givenOf : ℕ → Given
@@ -26,7 +26,7 @@ cutsBuffer g m u b zero = b
 cutsBuffer g m u b (suc c) = cutterBuffer g m u (suc c) (cutsBuffer g m u b c)
 
 abbrev pub cutSum : ℕ → Cutting → ℕ
-cutSum sum a = (sum + (cuttingNumber a + cuttingLength a)) % 2 ^ 64
+cutSum sum a = (sum + (cutterTold a .number + cutterTold a .length)) % 2 ^ 64
 
 -- The sum of what was answered for them.
 unfoldable pub cutsSum : Given → List ℕ → ℕ → List ℕ → ℕ → ℕ

@@ -2,13 +2,12 @@
 use Prim.Native.Nat.{ℕ, zero, suc, _+_, _*_, _%_, _^_}
 use mathlib.Core.List.{List, [], _∷_}
 use lib.ListN.{length, take, drop, set, replicate}
-use Rattle.ring.specs.Check.{verdictNumber}
 use Rattle.state.specs.declared.Address.{Address}
 use Rattle.state.specs.State.{sendersMost, noAddress}
 use Rattle.answers.specs.declared.Answer.{Answer}
 use Rattle.answers.specs.declared.Outcome.{Outcome}
-use Rattle.answers.specs.declared.Outcome.the-variants.{Refused, Stored, Delivered}
 use Rattle.answers.specs.declared.Setup.{Setup}
+use Rattle.answers.specs.Told.{refusedNumber, outcomeTold}
 use Rattle.rules.specs.calls.Message.{messageAnswer, messageStorage}
 use Rattle.rules.specs.calls.Part.{partOf}
 use Rattle.rules.specs.pasts.Past.{World, Event, message, alive, clock, aside, step}
@@ -40,15 +39,9 @@ packetsBy (n ∷ sizes) packets = message (take n packets) ∷ packetsBy sizes (
 
 -- ---- the number that is answered
 
--- A refusal's number, a delivery's verdict.
-abbrev pub told : Outcome → ℕ
-told (Refused k) = k
-told Stored = 0
-told (Delivered v) = verdictNumber v
-
--- The sum with one more answer in it: what was said, the pieces held, and the length that was handed over.
+-- The sum with one more answer in it: a refusal's number or a delivery's verdict, the pieces held, and the length that was handed over.
 abbrev pub summed : ℕ → Outcome → ℕ → ℕ → ℕ
-summed sum o held n = ((sum + (told o + held * 256)) % 2 ^ 64 + n) % 2 ^ 64
+summed sum o held n = ((sum + (refusedNumber o + outcomeTold o .verdict + held * 256)) % 2 ^ 64 + n) % 2 ^ 64
 
 abbrev pub sumWith : ℕ → Answer → List ℕ → ℕ
 sumWith sum a delivered = summed sum (a .outcome) (a .held) (length delivered)

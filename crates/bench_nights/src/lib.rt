@@ -5,7 +5,7 @@
 ghost use mathlib.Core.Path.{_≡_};
 ghost use Rattle.state.specs.State.{sendersMost};
 ghost use Rattle.rules.specs.pasts.Past.{after};
-ghost use Rattle.bench_nights.specs.Night.{nodesTo, boardOf, begun, packetsBy, told as toldOf, summed, nightSum};
+ghost use Rattle.bench_nights.specs.Night.{nodesTo, boardOf, begun, packetsBy, summed, nightSum};
 ghost use Rattle.bench_nights.specs.Cuts.{givenOf, cutSum, cutsSum, cutsBuffer};
 use answers::Outcome;
 use answers::Setup;
@@ -130,18 +130,8 @@ fn given_of(number: u32) -> Given
 fn with_answer(sum: u64, o: Outcome, held: u8, length: usize) -> u64
     ensures { λ r. ⌜ r ≡ summed sum o held length ⌝ }
 {
-    let answer = told(o) as u64 + (held as u64) * 256;
+    let answer = o.refusal() as u64 + o.verdict() as u64 + (held as u64) * 256;
     wrapping_add_u64(wrapping_add_u64(sum, answer), length as u64)
-}
-
-fn told(o: Outcome) -> u8
-    ensures { λ r. ⌜ r ≡ toldOf o ⌝ }
-{
-    match o {
-        Outcome::Refused(number) => number,
-        Outcome::Stored => 0,
-        Outcome::Delivered(verdict) => verdict.printed(),
-    }
 }
 
 // The sum with one more answer of the cutter in it.

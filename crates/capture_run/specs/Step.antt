@@ -4,20 +4,17 @@ use mathlib.Core.Bool.{true, false, cond}
 use mathlib.Core.List.{List}
 use lib.Dec.{eqb}
 use lib.ListN.{length}
-use Rattle.ring.specs.Check.{verdictNumber}
 use Rattle.state.specs.declared.Receiver.{Receiver}
 use Rattle.answers.specs.declared.Answer.{Answer}
 use Rattle.answers.specs.declared.Noted.{Noted}
-use Rattle.answers.specs.declared.Outcome.{Outcome}
-use Rattle.answers.specs.declared.Outcome.the-variants as outcome
 use Rattle.answers.specs.declared.Started.{Started}
 use Rattle.answers.specs.declared.Ticked.{Ticked}
-use Rattle.rules.specs.calls.Admit.{outcomeNumber}
+use Rattle.answers.specs.Told.{messageTold, callNumber, clockTold}
 use Rattle.rules.specs.calls.Alive.{aliveAnswer}
 use Rattle.rules.specs.calls.Clock.{clockAnswer}
 use Rattle.rules.specs.calls.Message.{area, messageAnswer, messageStorage}
 use Rattle.rules.specs.calls.Part.{partOf}
-use Rattle.rules.specs.calls.Setup.{callNumber, setupAnswer}
+use Rattle.rules.specs.calls.Setup.{setupAnswer}
 use Rattle.capture_fields.specs.declared.Kind.{Kind}
 use Rattle.capture_fields.specs.declared.Kind.the-variants as kind
 use Rattle.capture_fields.specs.declared.Next.{Next}
@@ -36,23 +33,17 @@ startedStep w a = record {
   on = true;
 }
 
--- "0 where nothing is delivered"
-abbrev pub printedVerdict : Outcome → ℕ
-printedVerdict (outcome.Refused k) = 0
-printedVerdict outcome.Stored = 0
-printedVerdict (outcome.Delivered v) = verdictNumber v
-
 -- "P answer verdict held length (held: pieces then held for the PDU's sender, 0 on a refusal; length of a delivery, otherwise 0)"
 abbrev pub answeredStep : Answer → List ℕ → Step
 answeredStep a delivered = record {
   state = a .state;
-  line = line.Message (outcomeNumber (a .outcome)) (printedVerdict (a .outcome)) (a .held) (length delivered);
+  line = line.Message (messageTold a .outcome .number) (messageTold a .outcome .verdict) (messageTold a .held) (length delivered);
   on = true;
 }
 
 -- "C answer, dropped map, dead map (both 0 on a refusal)"
 abbrev pub tickedStep : Ticked → Step
-tickedStep a = record { state = a .state; line = line.Clock (callNumber (a .call)) (a .dropped) (a .dead); on = true }
+tickedStep a = record { state = a .state; line = line.Clock (clockTold a .number) (clockTold a .dropped) (clockTold a .dead); on = true }
 
 -- "A answer"
 abbrev pub notedStep : Noted → Step

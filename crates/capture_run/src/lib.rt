@@ -6,17 +6,14 @@ ghost use mathlib.Core.Bool.{cond};
 ghost use lib.Dec.{eqb};
 ghost use lib.ListN.{length};
 ghost use Prim.Native.Nat.{_≤_};
-ghost use Rattle.rules.specs.calls.Admit.{outcomeNumber};
 ghost use Rattle.rules.specs.calls.Alive.{aliveAnswer};
 ghost use Rattle.rules.specs.calls.Clock.{clockAnswer};
 ghost use Rattle.rules.specs.calls.Message.{messageStorage};
-ghost use Rattle.rules.specs.calls.Setup.{callNumber, setupAnswer};
+ghost use Rattle.rules.specs.calls.Setup.{setupAnswer};
 ghost use Rattle.capture_fields.specs.Field.{sizeOf, nextOf, setupOf, clockOf};
-ghost use Rattle.capture_run.specs.Step.{startedStep, printedVerdict, tickedStep, notedStep, endStep, stepOf, storageOf, turnBy, turnStorage, wantedBy, lentOf};
+ghost use Rattle.capture_run.specs.Step.{startedStep, tickedStep, notedStep, endStep, stepOf, storageOf, turnBy, turnStorage, wantedBy, lentOf};
 ghost use Rattle.capture_fields.specs.declared.Kind.the-variants as kind;
 use alive::alive;
-use answers::Call;
-use answers::Outcome;
 use capture_fields::HEAD;
 use capture_fields::Kind;
 use capture_fields::Next;
@@ -87,7 +84,7 @@ fn setup_step(state: Receiver, contents: &[u8]) -> Step
 {
     let a = setup(setup_of(contents));
     let call = a.call;
-    let answer = call_number(call);
+    let answer = call.number();
     let line = Line::Setup { answer };
     if answer == 0 {
         let next = a.state;
@@ -114,8 +111,8 @@ fn message_step(state: Receiver, storage: &mut [u8], contents: &[u8]) -> Step
     let next = a.state;
     let delivered = part(place, contents, storage);
     let line = Line::Message {
-        answer: outcome_number(outcome),
-        verdict: printed_verdict(outcome),
+        answer: outcome.number(),
+        verdict: outcome.verdict(),
         held: a.held,
         length: delivered.len(),
     };
@@ -133,7 +130,7 @@ fn clock_step(state: Receiver, contents: &[u8]) -> Step
     let call = a.call;
     let next = a.state;
     let line = Line::Clock {
-        answer: call_number(call),
+        answer: call.number(),
         dropped: a.dropped,
         dead: a.dead,
     };
@@ -151,43 +148,12 @@ fn alive_step(state: Receiver, contents: &[u8]) -> Step
     let call = a.call;
     let next = a.state;
     let line = Line::Alive {
-        answer: call_number(call),
+        answer: call.number(),
     };
     Step {
         state: next,
         line,
         on: true,
-    }
-}
-
-// ---- 01's numbers
-
-fn call_number(c: Call) -> u8
-    ensures { λ r. ⌜ r ≡ callNumber c ⌝ }
-{
-    match c {
-        Call::Done => 0,
-        Call::Refused(number) => number,
-    }
-}
-
-fn outcome_number(o: Outcome) -> u8
-    ensures { λ r. ⌜ r ≡ outcomeNumber o ⌝ }
-{
-    match o {
-        Outcome::Refused(number) => number,
-        Outcome::Stored => 0,
-        Outcome::Delivered(_) => 1,
-    }
-}
-
-fn printed_verdict(o: Outcome) -> u8
-    ensures { λ r. ⌜ r ≡ printedVerdict o ⌝ }
-{
-    match o {
-        Outcome::Refused(_) => 0,
-        Outcome::Stored => 0,
-        Outcome::Delivered(verdict) => verdict.printed(),
     }
 }
 

@@ -60,11 +60,11 @@ cutterBuffer g m u c b = cond (cuts g m u c (length b)) (laid b 0 (pdu g m u c))
 unfoldable pub cutterAnswer : Given → List ℕ → ℕ → ℕ → ℕ → Cutting
 cutterAnswer g m u c room = cond (cuts g m u c room) (Written (headerSize + pieceLength (length m) u c)) Refused
 
--- "0 stored, done or written"; 23 for the refusal
-abbrev pub cuttingNumber : Cutting → ℕ
-cuttingNumber (Written k) = 0
-cuttingNumber Refused = 23
+-- This paper's number for each case, and the PDU's length: "0 stored, done or written"; 23 says nothing more.
+pub record CutterTold : Type 0 where
+  pub number : ℕ
+  pub length : ℕ
 
-abbrev pub cuttingLength : Cutting → ℕ
-cuttingLength (Written k) = k
-cuttingLength Refused = 0
+abbrev pub cutterTold : Cutting → CutterTold
+cutterTold (Written k) = record { number = 0; length = k }
+cutterTold Refused = record { number = 23; length = 0 }

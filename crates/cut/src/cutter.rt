@@ -8,7 +8,7 @@ ghost use lib.ListN.{length};
 ghost use Rattle.octets.specs.Run.{laid};
 ghost use Rattle.header.specs.Places.{headerSize};
 ghost use Rattle.cut.specs.Pieces.{pieceLength};
-ghost use Rattle.cut.specs.Cutter.{pdu, givenWithin, pieceWithin, limitsWithin, cutterAnswer, cutterBuffer, cuttingNumber, cuttingLength};
+ghost use Rattle.cut.specs.Cutter.{pdu, givenWithin, pieceWithin, limitsWithin, cutterAnswer, cutterBuffer, cutterTold};
 use crate::pieces::MOST_OCTETS;
 use crate::pieces::piece_length;
 use crate::pieces::piece_place;
@@ -33,7 +33,7 @@ pub enum Cutting {
 impl Cutting {
     // 0 or 23.
     pub fn number(self) -> u8
-        ensures { λ r. ⌜ r ≡ cuttingNumber self ⌝ }
+        ensures { λ r. ⌜ r ≡ cutterTold self .number ⌝ }
     {
         match self {
             Cutting::Written(_) => 0,
@@ -43,7 +43,7 @@ impl Cutting {
 
     // The PDU's length, 0 on a refusal.
     pub fn length(self) -> u16
-        ensures { λ r. ⌜ r ≡ cuttingLength self ⌝ }
+        ensures { λ r. ⌜ r ≡ cutterTold self .length ⌝ }
     {
         match self {
             Cutting::Written(length) => length,

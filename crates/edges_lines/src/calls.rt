@@ -15,33 +15,34 @@ fn told(tag: u8, numbers: &[u64]) {
 }
 
 pub fn call_line(tag: u8, call: Call) {
-    told(tag, &[call_number(call)]);
+    told(tag, &[call.number() as u64]);
 }
 
 pub fn clock_line(tag: u8, call: Call, dropped: u16, dead: u16) {
-    told(tag, &[call_number(call), dropped as u64, dead as u64]);
+    told(tag, &[call.number() as u64, dropped as u64, dead as u64]);
 }
 
-fn call_number(call: Call) -> u64 {
-    match call {
-        Call::Done => 0,
-        Call::Refused(number) => number as u64,
-    }
-}
-
-// Of the state that was asked.
+// Of the state that was asked. 01: "trailing ones give the lowest missing piece": they are asked beside the question's loops, and both are
+// printed.
 pub fn question_line(missing: Missing, w: Receiver) {
-    match missing {
-        Missing::Refused(number) => line(b'Q', &[number as u64, 0, 0, 0, 0]),
-        Missing::NoneOpen => line(b'Q', &[0, 0, 0, 0, 0]),
-        Missing::Piece { sender, piece } => piece_line(sender, piece, map_at(w, sender)),
-    }
+    line(
+        b'Q',
+        &[
+            missing.number() as u64,
+            missing.is_open() as u64,
+            missing.sender() as u64,
+            missing.piece() as u64,
+            by_ones(missing, w),
+        ],
+    );
 }
 
-// 01: "trailing ones give the lowest missing piece". They are asked beside the question's loops, and both are printed.
-fn piece_line(place: u8, piece: u8, map: u64) {
-    let by_ones = lowest_missing(map);
-    line(b'Q', &[0, 1, place as u64, piece as u64, by_ones as u64]);
+// The lowest missing piece of the sender that was found, by the trailing ones of its map; 0 where none was.
+fn by_ones(missing: Missing, w: Receiver) -> u64 {
+    if missing.is_open() {
+        return lowest_missing(map_at(w, missing.sender())) as u64;
+    }
+    0
 }
 
 // The map of the sender at a place.
@@ -58,28 +59,18 @@ fn map_at(w: Receiver, place: u8) -> u64 {
 
 // What is counted are the part's length and sum, and the storage's sum.
 pub fn message_line(tag: u8, outcome: Outcome, held: u8, dropped: Dropped, counted: [u64; 3]) {
-    let numbers = outcome_numbers(outcome);
     told(
         tag,
         &[
-            numbers[0],
-            numbers[1],
+            outcome.number() as u64,
+            outcome.verdict() as u64,
             held as u64,
             counted[0],
-            numbers[2],
+            outcome.skipped() as u64,
             dropped.version.0 as u64,
             dropped.number.0 as u64,
             counted[1],
             counted[2],
         ],
     );
-}
-
-// Number, verdict and skipped count.
-fn outcome_numbers(outcome: Outcome) -> [u64; 3] {
-    match outcome {
-        Outcome::Refused(number) => [number as u64, 0, 0],
-        Outcome::Stored => [0, 0, 0],
-        Outcome::Delivered(verdict) => [1, verdict.printed() as u64, verdict.skipped() as u64],
-    }
 }

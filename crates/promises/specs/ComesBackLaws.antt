@@ -20,16 +20,16 @@ use Rattle.header.specs.declared.Given.{Given}
 use Rattle.header.specs.Places.{headerSize}
 use Rattle.cut.specs.declared.cutter.Cutting.{Cutting}
 use Rattle.cut.specs.declared.cutter.Cutting.the-variants as cutting
-use Rattle.cut.specs.Cutter.{Words, cuts, cutterAnswer, cutterBuffer, cuttingLength, pdu}
+use Rattle.cut.specs.Cutter.{Words, cuts, cutterAnswer, cutterBuffer, pdu, CutterTold, cutterTold}
 use Rattle.cut.specs.CutterLaws.{Within, length-pdu}
 use Rattle.cut.specs.Pieces.{leastUnit, mostUnit, pieceLength}
 use Rattle.cut.specs.Possible.{isUnit}
 use Rattle.cut.specs.ReadLaws.{cuts-within, cuts-room}
 use Rattle.state.specs.declared.Sender.{Sender}
 use Rattle.state.specs.State.{noLast}
-use Rattle.answers.specs.declared.Outcome.the-variants as outcome
 use Rattle.rules.specs.promised.CutPiecesLaws.{cuts-piece}
 use Rattle.rules.specs.promised.Delivery.{sentBy, Sent, PieceOf, Came, May, Between, OnlyPieces, verdictFor}
+use Rattle.answers.specs.Told.{deliveredAs}
 use Rattle.rules.specs.pasts.Past.{World, Event, message, step, after}
 use Rattle.rules.specs.pasts.PastLaws.{start-sender}
 use Rattle.rules.specs.promised.PieceLaws.{Cuttable, piece-number}
@@ -43,14 +43,14 @@ module _ (g : Given) (octets : List ℕ) (u c : ℕ) (packet : List ℕ) (wrote 
   abbrev room : ℕ
   room = length (wrote .buffer)
 
-  is-written : (b : Bool) → cutting.Written (length packet) ≡ cond {A = Cutting} b (cutting.Written (headerSize + pieceLength (length octets) u c)) cutting.Refused
+  is-written : (b : Bool) → cutterTold (cond {A = Cutting} b (cutting.Written (headerSize + pieceLength (length octets) u c)) cutting.Refused) ≡ record { number = 0; length = length packet }
       → (b ≡ true) × (length packet ≡ headerSize + pieceLength (length octets) u c)
-  is-written true e = (refl, ap cuttingLength e)
-  is-written false e = let z : _≡_ {A = ℕ} 0 1 = cc in absurd (omega (arith, z))
+  is-written true e = (refl, sym (ap (λ (t : CutterTold). t .length) e))
+  is-written false e = absurd (omega (arith, ap (λ (t : CutterTold). t .number) e))
 
   answer-facts : (cuts g octets u c room ≡ true) × (length packet ≡ headerSize + pieceLength (length octets) u c)
   unfolding cutterAnswer
-  answer-facts = is-written (cuts g octets u c room) (wrote .cut .answered)
+  answer-facts = is-written (cuts g octets u c room) (sym (ap cutterTold (wrote .cut .answered)) ∙ wrote .written)
 
   pub its-limits : Within (length octets) u c
   its-limits = cuts-within g octets u c room (answer-facts .0)
@@ -118,4 +118,4 @@ comes-back q r w meets g words octets u i here address admits packets wrote orde
     } in
     let arrives = delivers q r w meets [] tt w refl m i may (arrive m i packets order) rs v course (only-its m i packets w order are) last (packets last) last-is a x meets-last in
     let got = arrives .0 .delivered (λ came. any .missing (came-its m i packets k order are last came), λ d numbered ne. its-came m i packets order are d (any .others d numbered ne)) in
-    (got .0 ∙ ap (λ (s : Sender). outcome.Delivered (verdictFor (w .state .n1) m (s .last))) is, got .1)
+    (got .0 ∙ ap (λ (s : Sender). deliveredAs (verdictFor (w .state .n1) m (s .last))) is, got .1)

@@ -10,21 +10,17 @@ use mathlib.Core.Bool.{true, false, not, _&&_}
 use mathlib.Core.List.{List, [], _∷_, map, List·Memᴰ}
 use lib.Dec.{eqb}
 use lib.ListN.{length, take}
-use Rattle.ring.specs.declared.Verdict.{Verdict}
 use Rattle.header.specs.declared.Given.{Given}
 use Rattle.header.specs.Head.{headOf}
 use Rattle.cut.specs.declared.cutter.Cutting.{Cutting}
-use Rattle.cut.specs.declared.cutter.Cutting.the-variants as cutting
-use Rattle.cut.specs.Cutter.{Words, cuts}
+use Rattle.cut.specs.Cutter.{Words, cuts, cutterTold}
 use Rattle.cut.specs.Edges.{all, edges}
 use Rattle.state.specs.Limits.{addressAt}
 use Rattle.state.specs.State.{noLast, senderAt, emptyReceiver}
 use Rattle.state.specs.Table.{source}
-use Rattle.answers.specs.declared.Call.the-variants as call
-use Rattle.answers.specs.declared.Missing.the-variants as missing
-use Rattle.answers.specs.declared.Outcome.the-variants as outcome
 use Rattle.answers.specs.declared.Setup.{Setup}
 use Rattle.answers.specs.declared.Started.{Started}
+use Rattle.answers.specs.Told.{RefusedAs, deliveredAs, messageTold, messageRefused, callNumber, clockTold, clockRefused, questionTold, noneOpen, OutcomeTells, CallTells, MissingTells}
 use Rattle.rules.specs.promised.Accepted.{acceptedWith, acceptedIn}
 use Rattle.rules.specs.calls.Alive.{aliveRows}
 use Rattle.rules.specs.promised.AlivePast.{AliveBy}
@@ -41,12 +37,22 @@ use Rattle.promises.specs.Course.{Meets, Course, SetupMeets, CutterMeets
 
 -- ---- demand 1
 
--- Number k was answered.
+-- The number that was answered, and that nothing more was than a refusal with k.
+abbrev pub numberIn : (e : Event) → Said e → ℕ
+numberIn (message packet) r = messageTold (r .0) .outcome .number
+numberIn (alive packet) r = callNumber (r .call)
+numberIn (clock now) r = clockTold r .number
+numberIn (aside question) r = questionTold r .number
+
+abbrev pub NothingMore : (e : Event) → Said e → ℕ → Type 0
+NothingMore (message packet) r k = (messageTold (r .0) ≡ messageRefused k) × (r .1 ≡ [])
+NothingMore (alive packet) r k = callNumber (r .call) ≡ k
+NothingMore (clock now) r k = clockTold r ≡ clockRefused k
+NothingMore (aside question) r k = questionTold r ≡ noneOpen k
+
+-- Number k was answered, which is a refusal's.
 abbrev pub RefusedWith : (e : Event) → Said e → ℕ → Type 0
-RefusedWith (message packet) r k = r .0 .outcome ≡ outcome.Refused k
-RefusedWith (alive packet) r k = r .call ≡ call.Refused k
-RefusedWith (clock now) r k = r .call ≡ call.Refused k
-RefusedWith (aside question) r k = r ≡ missing.Refused k
+RefusedWith e r = RefusedAs (numberIn e r)
 
 -- The numbers of a call, with their conditions, in the order in which they are tried.
 abbrev pub rowsOf : World → Event → List Row
@@ -55,26 +61,39 @@ rowsOf w (alive packet) = aliveRows (w .state) packet
 rowsOf w (clock now) = clockRows (w .state) now
 rowsOf w (aside question) = questionRows (w .state)
 
--- "Bad input meets the numbered refusal that the papers fix": number k, exactly if its row is the first that applies. "A refusal changes neither
--- the state nor one octet of lent memory": what that leaves.
-pub record Refuses (table : List Row) (answered : ℕ → Type 0) (unchanged : Type 0) : Type 0 where
-  pub only-if : (k : ℕ) → answered k → rows.Given table k
-  pub if-first : (k : ℕ) → rows.Given table k → answered k
-  pub nothing : (k : ℕ) → answered k → unchanged
+-- "Bad input meets the numbered refusal that the papers fix": of the number that was answered, that it is a refusal's and k, exactly if the row of
+-- k is the first that applies. "returns: nothing more", and "A refusal changes neither the state nor one octet of lent memory": what then is left.
+pub record Refuses (table : List Row) (number : ℕ) (left : ℕ → Type 0) : Type 0 where
+  pub only-if : (k : ℕ) → RefusedAs number k → rows.Given table k
+  pub if-first : (k : ℕ) → rows.Given table k → RefusedAs number k
+  pub nothing : (k : ℕ) → RefusedAs number k → left k
 
 -- "Any octets may arrive, in any order of calls, at every public entry."
 abbrev pub CallsRefuse : Type 0
-CallsRefuse = (w : World) (e : Event) (r : Said e) (v : World) → Meets w e r v → Refuses (rowsOf w e) (RefusedWith e r) (v ≡ w)
+CallsRefuse = (w : World) (e : Event) (r : Said e) (v : World) → Meets w e r v
+    → Refuses (rowsOf w e) (numberIn e r) (λ k. NothingMore e r k × (v ≡ w))
 
 -- "10: setup outside its limits: empty state"
 abbrev pub SetupRefuses : Type 0
 SetupRefuses = (q : Setup) (r : Started) (w : World) → SetupMeets q r w
-    → Refuses (row 10 (not (setupWithin q)) ∷ []) (λ k. r .call ≡ call.Refused k) (w .state ≡ emptyReceiver)
+    → Refuses (row 10 (not (setupWithin q)) ∷ []) (callNumber (r .call)) (λ k. w .state ≡ emptyReceiver)
 
 -- "23: cutter: n, u, piece number or a header value outside limits, or buffer short"
 abbrev pub CutterRefuses : Type 0
 CutterRefuses = (g : Given) (m : List ℕ) (u c : ℕ) (buffer : List ℕ) (r : Cutting) (left : List ℕ) → CutterMeets g m u c buffer r left
-    → Refuses (row 23 (not (cuts g m u c (length buffer))) ∷ []) (λ k. (k ≡ 23) × (r ≡ cutting.Refused)) (left ≡ buffer)
+    → Refuses (row 23 (not (cuts g m u c (length buffer))) ∷ []) (cutterTold r .number) (λ k. (cutterTold r .length ≡ 0) × (left ≡ buffer))
+
+-- A number is told by one case of an answer alone: a refusal has one of 9 or more, and a delivery a verdict. So what is said of numbers and
+-- values is said of the answers (`one-answer`, `one-call` and `one-missing` of `answers`).
+abbrev pub Tells : (e : Event) → Said e → Type 0
+Tells (message packet) r = OutcomeTells (r .0 .outcome)
+Tells (alive packet) r = CallTells (r .call)
+Tells (clock now) r = CallTells (r .call)
+Tells (aside question) r = MissingTells r
+
+abbrev pub NumbersTell : Type 0
+NumbersTell = ((w : World) (e : Event) (r : Said e) (v : World) → Meets w e r v → Tells e r)
+    × ((q : Setup) (r : Started) (w : World) → SetupMeets q r w → CallTells (r .call))
 
 -- What is said of the calls after any past.
 abbrev pub AfterPast : ((w : World) (es : List Event) → Answers es → World → Type 0) → Type 0
@@ -90,7 +109,9 @@ NeverNine = AfterPast (λ w es rs v. (e : Event) (r : Said e) (u : World) → Me
 pub record CutterWrote (g : Given) (octets : List ℕ) (u c : ℕ) (packet : List ℕ) : Type 0 where
   pub buffer : List ℕ
   pub left : List ℕ
-  pub cut : CutterMeets g octets u c buffer (cutting.Written (length packet)) left
+  pub answer : Cutting
+  pub cut : CutterMeets g octets u c buffer answer left
+  pub written : cutterTold answer ≡ record { number = 0; length = length packet }
   pub begins : packet ≡ take (length packet) left
 
 -- The pieces of a message in any order: first these, some of them more than once, and then the last missing one.
@@ -110,7 +131,7 @@ ComesBack = (q : Setup) (r : Started) (w : World) → SetupMeets q r w
     → (order : List ℕ) (last : ℕ) → AnyOrder (sentBy g octets u) order last
     → let es = map (λ c. message (packets c)) order in
     (rs : Answers es) (v : World) → Course w es rs v → (a : Said (message (packets last))) (x : World) → Meets v (message (packets last)) a x
-    → (a .0 .outcome ≡ outcome.Delivered (verdictFor (w .state .n1) (sentBy g octets u) noLast)) × (a .1 ≡ octets)
+    → (messageTold (a .0) .outcome ≡ deliveredAs (verdictFor (w .state .n1) (sentBy g octets u) noLast)) × (a .1 ≡ octets)
 
 -- "the judging of alive signals": who is alive after a past is what the past alone says.
 abbrev pub WhoIsAlive : Type 0
@@ -134,7 +155,7 @@ DeliveredOnce = AfterPast (λ w past rs v. (m : Sent) (i : ℕ) → May m i past
 -- piece number."
 abbrev pub Safety : Type 0
 Safety = AfterPast (λ w es rs v. (packet : List ℕ) (r : Said (message packet)) (u : World) → Meets v (message packet) r u
-    → (verdict : Verdict) → r .0 .outcome ≡ outcome.Delivered verdict
+    → messageTold (r .0) .outcome .number ≡ 1
     → Joined (acceptedWith (source (headOf packet)) (acceptedIn (source (headOf packet)) [] es rs) packet (r .0)) packet (r .1))
 
 -- ---- uniqueness, and the edges
@@ -161,6 +182,7 @@ pub record Demands : Type 0 where
   pub calls-refuse : CallsRefuse
   pub setup-refuses : SetupRefuses
   pub cutter-refuses : CutterRefuses
+  pub numbers-tell : NumbersTell
   pub never-nine : NeverNine
   pub comes-back : ComesBack
   pub alive-is : WhoIsAlive

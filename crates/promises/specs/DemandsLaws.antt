@@ -1,5 +1,5 @@
 -- The demands, proved: every course is the one that `rules` speaks of, and of that one `rules` has proved them. Assumes nothing.
-use Prim.Native.Nat.{ℕ, _+_, _*_}
+use Prim.Native.Nat.{ℕ, _+_, _*_, _≤_}
 use mathlib.Core.Path.{_≡_, refl, sym, ap, subst, _∙_}
 use mathlib.Core.Logic.{_≢_, _⊎_, inl, inr}
 use mathlib.Core.Bool.{Bool, true, false, not, cond}
@@ -13,7 +13,7 @@ use Rattle.header.specs.Head.{headOf}
 use Rattle.cut.specs.declared.cutter.Cutting.{Cutting}
 use Rattle.cut.specs.declared.cutter.Cutting.the-variants as cutting
 use Rattle.header.specs.Places.{headerSize}
-use Rattle.cut.specs.Cutter.{cuts, cutterAnswer, cutterBuffer}
+use Rattle.cut.specs.Cutter.{cuts, cutterAnswer, cutterBuffer, cutterTold}
 use Rattle.cut.specs.Pieces.{pieceLength}
 use Rattle.state.specs.declared.Address.{Address}
 use Rattle.state.specs.Limits.{addressAt, valid}
@@ -21,11 +21,12 @@ use Rattle.state.specs.State.{senderAt, emptyReceiver}
 use Rattle.state.specs.Table.{source}
 use Rattle.answers.specs.declared.Answer.{Answer}
 use Rattle.answers.specs.declared.Call.the-variants as call
+use Rattle.answers.specs.declared.Missing.{Missing}
 use Rattle.answers.specs.declared.Noted.{Noted}
 use Rattle.answers.specs.declared.Outcome.{Outcome}
-use Rattle.answers.specs.declared.Outcome.the-variants as outcome
 use Rattle.answers.specs.declared.Started.{Started}
 use Rattle.answers.specs.declared.Ticked.{Ticked}
+use Rattle.answers.specs.Told.{leastRefusal, RefusedAs, messageTold, callNumber, clockTold, questionTold, CallTells}
 use Rattle.rules.specs.promised.Accepted.{acceptedWith, acceptedIn}
 use Rattle.rules.specs.promised.AlivePast.{AliveBy}
 use Rattle.rules.specs.promised.AlivePastLaws.{alive-after, after-alive}
@@ -35,7 +36,7 @@ use Rattle.rules.specs.promised.CameLaws.{one-applies}
 use Rattle.rules.specs.calls.Clock.{notTicked}
 use Rattle.rules.specs.promised.Delivery.{May, Between, OnlyPieces, verdictFor, Arrives, Once}
 use Rattle.rules.specs.promised.DeliveryLaws.{arrives-only}
-use Rattle.rules.specs.calls.ExactlyLaws.{message-refuses, message-given, alive-refuses, alive-given, clock-refuses, clock-given, question-refuses, question-given, setup-refuses, setup-given}
+use Rattle.rules.specs.calls.ExactlyLaws.{message-refuses, message-given, alive-refuses, alive-given, clock-refuses, clock-given, question-refuses, question-given, setup-refuses, setup-given, message-tells, alive-tells, clock-tells, question-tells, setup-tells}
 use Rattle.rules.specs.calls.First.{Row, row, Given}
 use Rattle.rules.specs.calls.FirstLaws.{above, given-above}
 use Rattle.rules.specs.promised.Join.{Joined}
@@ -45,54 +46,72 @@ use Rattle.rules.specs.pasts.PastLaws.{Sound}
 use Rattle.rules.specs.promised.SafeLaws.{safe}
 use Rattle.rules.specs.calls.Setup.{setupWithin}
 use Rattle.promises.specs.CourseLaws.{one-call, one-course, next-call, course-start, course-sound}
-use Rattle.promises.specs.Demands.{RefusedWith, rowsOf, Refuses, CallsRefuse, SetupRefuses, CutterRefuses, NeverNine, WhoIsAlive, DeliveredOnce, Safety}
+use Rattle.promises.specs.Demands.{numberIn, NothingMore, rowsOf, Refuses, CallsRefuse, SetupRefuses, CutterRefuses, Tells, NumbersTell, NeverNine, WhoIsAlive, DeliveredOnce, Safety}
 
 -- ---- demand 1
 
-said-refuses : (w : World) (e : Event) → Refuses (rowsOf w e) (RefusedWith e (said w e)) (step w e ≡ w)
+-- The rows of every call have numbers of 9 and more.
+rows-above : (w : World) (e : Event) → above 8 (rowsOf w e) ≡ true
+unfolding messageRows senderRows aliveRows above
+rows-above w (message packet) = refl
+rows-above w (alive packet) = refl
+rows-above w (clock now) = refl
+rows-above w (aside question) = refl
+
+least : (w : World) (e : Event) (k : ℕ) → Given (rowsOf w e) k → leastRefusal ≤ k
+least w e k g = omega (arith, given-above 8 (rowsOf w e) k (rows-above w e) g)
+
+said-refuses : (w : World) (e : Event) → Refuses (rowsOf w e) (numberIn e (said w e)) (λ k. NothingMore e (said w e) k × (step w e ≡ w))
 unfolding said step
 said-refuses w (message packet) = record {
   only-if = message-given (w .state) (w .storage) packet;
-  if-first = λ k g. unfold refused in ap (λ (x : Answer). x .outcome) (message-refuses (w .state) (w .storage) packet k g .0);
+  if-first = λ k g. unfold refused in
+      (ap (λ (x : Answer). messageTold x .outcome .number) (message-refuses (w .state) (w .storage) packet k g .0), least w (message packet) k g);
   nothing = λ k e. unfold refused in
       let f = message-refuses (w .state) (w .storage) packet k (message-given (w .state) (w .storage) packet k e) in
-      rw (f .0, f .1);
+      ((rw (f .0), rw (f .0)), rw (f .0, f .1));
 }
 said-refuses w (alive packet) = record {
   only-if = alive-given (w .state) packet;
-  if-first = λ k g. ap (λ (x : Noted). x .call) (alive-refuses (w .state) packet k g);
-  nothing = λ k e. rw (alive-refuses (w .state) packet k (alive-given (w .state) packet k e));
+  if-first = λ k g. (ap (λ (x : Noted). callNumber (x .call)) (alive-refuses (w .state) packet k g), least w (alive packet) k g);
+  nothing = λ k e. (e .0, rw (alive-refuses (w .state) packet k (alive-given (w .state) packet k e)));
 }
 said-refuses w (clock now) = record {
   only-if = clock-given (w .state) now;
-  if-first = λ k g. unfold notTicked in ap (λ (x : Ticked). x .call) (clock-refuses (w .state) now k g);
-  nothing = λ k e. unfold notTicked in rw (clock-refuses (w .state) now k (clock-given (w .state) now k e));
+  if-first = λ k g. unfold notTicked in (ap (λ (x : Ticked). clockTold x .number) (clock-refuses (w .state) now k g), least w (clock now) k g);
+  nothing = λ k e. unfold notTicked in
+      let f = clock-refuses (w .state) now k (clock-given (w .state) now k e) in
+      (rw f, rw f);
 }
-said-refuses w (aside question) = record { only-if = question-given (w .state); if-first = question-refuses (w .state); nothing = λ k e. refl }
+said-refuses w (aside question) = record {
+  only-if = question-given (w .state);
+  if-first = λ k g. (ap (λ (x : Missing). questionTold x .number) (question-refuses (w .state) k g), least w (aside question) k g);
+  nothing = λ k e. (ap questionTold (question-refuses (w .state) k (question-given (w .state) k e)), refl);
+}
 
 pub calls-refuse : CallsRefuse
 calls-refuse w e r v m =
     let is = one-call w e r v m in
-    subst (λ (x : Said e). Refuses (rowsOf w e) (RefusedWith e x) (v ≡ w)) (sym (is .0))
-    (subst (λ (x : World). Refuses (rowsOf w e) (RefusedWith e (said w e)) (x ≡ w)) (sym (is .1)) (said-refuses w e))
+    subst (λ (x : Said e). Refuses (rowsOf w e) (numberIn e x) (λ k. NothingMore e x k × (v ≡ w))) (sym (is .0))
+    (subst (λ (x : World). Refuses (rowsOf w e) (numberIn e (said w e)) (λ k. NothingMore e (said w e) k × (x ≡ w))) (sym (is .1)) (said-refuses w e))
 
 -- One row, which applies or not.
-one-row : (k : ℕ) (b : Bool) (answered : ℕ → Type 0) (unchanged : Type 0) → ((j : ℕ) → answered j → (j ≡ k) × (b ≡ true)) → (b ≡ true → answered k)
-    → (b ≡ true → unchanged) → Refuses (row k b ∷ []) answered unchanged
-one-row k b answered unchanged only must left = record {
+one-row : (k : ℕ) (b : Bool) (number : ℕ) (left : Type 0) → leastRefusal ≤ k → ((j : ℕ) → RefusedAs number j → (j ≡ k) × (b ≡ true)) → (b ≡ true → number ≡ k)
+    → (b ≡ true → left) → Refuses (row k b ∷ []) number (λ j. left)
+one-row k b number left least only must leaves = record {
   only-if = λ j a. unfold Given in inl (only j a .1, sym (only j a .0));
   if-first = λ j g. unfold Given in from-row g;
-  nothing = λ j a. left (only j a .1);
+  nothing = λ j a. leaves (only j a .1);
 }
   where
-    from-row : {j : ℕ} → ((b ≡ true) × (k ≡ j)) ⊎ ((b ≡ false) × ⊥) → answered j
-    from-row (inl g) = subst answered (g .1) (must (g .0))
+    from-row : {j : ℕ} → ((b ≡ true) × (k ≡ j)) ⊎ ((b ≡ false) × ⊥) → RefusedAs number j
+    from-row (inl g) = (must (g .0) ∙ g .1, omega (arith, least, g .1))
     from-row (inr g) = absurd (g .1)
 
 pub setup-refuses-all : SetupRefuses
-setup-refuses-all q r w m = one-row 10 (not (setupWithin q)) (λ k. r .call ≡ call.Refused k) (w .state ≡ emptyReceiver)
-    (λ j a. let f = setup-given q j (sym (ap (λ (x : Started). x .call) (m .answered)) ∙ a) in (f .0, rw (f .1)))
-    (λ b. ap (λ (x : Started). x .call) (refused b))
+setup-refuses-all q r w m = one-row 10 (not (setupWithin q)) (callNumber (r .call)) (w .state ≡ emptyReceiver) (omega arith)
+    (λ j a. let f = setup-given q j (sym (ap (λ (x : Started). callNumber (x .call)) (m .answered)) ∙ a .0, a .1) in (f .0, rw (f .1)))
+    (λ b. ap (λ (x : Started). callNumber (x .call)) (refused b))
     (λ b. m .handed-on ∙ ap (λ (x : Started). x .state) (refused b))
   where
     refused : not (setupWithin q) ≡ true → r ≡ record { call = call.Refused 10; state = emptyReceiver }
@@ -100,17 +119,31 @@ setup-refuses-all q r w m = one-row 10 (not (setupWithin q)) (λ k. r .call ≡ 
 
 pub cutter-refuses-all : CutterRefuses
 unfolding cutterAnswer cutterBuffer
-cutter-refuses-all g octets u c buffer r left m = one-row 23 (not written) (λ k. (k ≡ 23) × (r ≡ cutting.Refused)) (left ≡ buffer)
-    (λ j a. (a .0, turned written (sym (m .answered) ∙ a .1)))
-    (λ b. (refl, m .answered ∙ rw (not-true written b)))
-    (λ b. m .written ∙ rw (not-true written b))
+cutter-refuses-all g octets u c buffer r left m = one-row 23 (not written) (cutterTold r .number) ((cutterTold r .length ≡ 0) × (left ≡ buffer)) (omega arith)
+    (λ j a. turned written j (sym (ap (λ (x : Cutting). cutterTold x .number) (m .answered)) ∙ a .0, a .1))
+    (λ b. ap (λ (x : Cutting). cutterTold x .number) (m .answered) ∙ rw (not-true written b))
+    (λ b. (ap (λ (x : Cutting). cutterTold x .length) (m .answered) ∙ rw (not-true written b), m .written ∙ rw (not-true written b)))
   where
     written : Bool
     written = cuts g octets u c (length buffer)
 
-    turned : (b : Bool) → cond {A = Cutting} b (cutting.Written (headerSize + pieceLength (length octets) u c)) cutting.Refused ≡ cutting.Refused → not b ≡ true
-    turned true e = let z : _≡_ {A = ℕ} 0 1 = cc in absurd (omega (arith, z))
-    turned false e = refl
+    turned : (b : Bool) (j : ℕ) → RefusedAs (cutterTold (cond {A = Cutting} b (cutting.Written (headerSize + pieceLength (length octets) u c)) cutting.Refused) .number) j
+        → (j ≡ 23) × (not b ≡ true)
+    turned true j a = absurd (omega (arith, a .0, a .1))
+    turned false j a = (sym (a .0), refl)
+
+said-tells : (w : World) (e : Event) → Tells e (said w e)
+unfolding said
+said-tells w (message packet) = message-tells (w .state) (w .storage) packet
+said-tells w (alive packet) = alive-tells (w .state) packet
+said-tells w (clock now) = clock-tells (w .state) now
+said-tells w (aside question) = question-tells (w .state)
+
+pub numbers-tell : NumbersTell
+numbers-tell = (
+  λ w e r v m. subst (Tells e) (sym (one-call w e r v m .0)) (said-tells w e),
+  λ q r w m. subst (λ (x : Started). CallTells (x .call)) (sym (m .answered)) (setup-tells q),
+)
 
 -- A number is not given where its row does not apply and the others' numbers are above it,
 not-given : (k : ℕ) (b : Bool) (rs : List Row) → b ≡ false → above k rs ≡ true → ¬ (Given (row k b ∷ rs) k)
@@ -173,12 +206,12 @@ delivers q r w m past rs v c sent i may es ts u d between k packet is a x meets 
 
 pub is-safe : Safety
 unfolding said
-is-safe q r w m es rs v c packet a u meets verdict gave =
+is-safe q r w m es rs v c packet a u meets gave =
     let start = course-start q r w m in
     let one = one-course w es rs v c in
     let said-is = next-call w es rs v c (message packet) a u meets .0 in
-    let gave′ = subst (λ (y : Said (message packet)). y .0 .outcome ≡ outcome.Delivered verdict) said-is gave in
-    let join = safe w start es packet verdict gave′ in
+    let gave′ = subst (λ (y : Said (message packet)). messageTold (y .0) .outcome .number ≡ 1) said-is gave in
+    let join = safe w start es packet gave′ in
     subst (λ (y : Said (message packet)). Joined (acceptedWith from (acceptedIn from [] es rs) packet (y .0)) packet (y .1)) (sym said-is)
     (subst (λ (y : Answers es). Joined (acceptedWith from (acceptedIn from [] es y) packet (said (after w es) (message packet) .0)) packet (said (after w es) (message packet) .1)) (sym (one .0)) join)
   where

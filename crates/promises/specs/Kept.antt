@@ -10,6 +10,7 @@ kept = record {
   calls-refuse = laws.calls-refuse;
   setup-refuses = laws.setup-refuses-all;
   cutter-refuses = laws.cutter-refuses-all;
+  numbers-tell = laws.numbers-tell;
   never-nine = laws.never-nine;
   comes-back = comes-back.comes-back;
   alive-is = laws.alive-is;

@@ -4,7 +4,6 @@ ghost use mathlib.Core.Bool.{true};
 ghost use Prim.Native.Nat.{_+_, _<_};
 ghost use lib.ListN.{length};
 ghost use Rattle.cut.specs.Possible.{possible};
-ghost use Rattle.rules.specs.calls.Admit.{refusedNumber};
 ghost use Rattle.rules.specs.calls.First.{first};
 ghost use Rattle.state.specs.State.{sendersMost};
 ghost use Rattle.rules.specs.calls.Message.{packetRows, headWithin, storageAfter, liesAt, whereBy, messageAnswer, messageStorage};
@@ -48,7 +47,7 @@ pub fn message(mut state: Receiver, storage: &mut [u8], packet: &[u8]) -> Answer
     let s = state.senders[at as usize];
     let a = admit(s, state.test, state.n1, state.clock, h);
     let outcome = a.outcome;
-    let late = refused_number(outcome);
+    let late = outcome.refusal();
     if late != 0 {
         return Answer {
             outcome: Outcome::Refused(late),
@@ -99,16 +98,6 @@ fn head_within(packet: &[u8], h: Head) -> bool
     let given = h.given;
     let number = given.number;
     common_within(packet, h) & code_of(given.tcd).is_user() & number.within()
-}
-
-fn refused_number(o: Outcome) -> u8
-    ensures { λ r. ⌜ r ≡ refusedNumber o ⌝ }
-{
-    match o {
-        Outcome::Refused(number) => number,
-        Outcome::Stored => 0,
-        Outcome::Delivered(_) => 0,
-    }
 }
 
 // Where the message lies, if it was delivered.

@@ -2,14 +2,14 @@
 -- at 4,294,967,295."
 use Prim.Native.Nat.{ℕ, _+_, min}
 use mathlib.Core.Path.{_≡_}
-use mathlib.Core.Bool.{Bool, true, false, cond}
+use mathlib.Core.Bool.{cond}
 use mathlib.Core.List.{List, [], _∷_}
 use lib.Dec.{leb}
 use lib.ListN.{length}
 use Rattle.state.specs.declared.Receiver.{Receiver}
 use Rattle.answers.specs.declared.Outcome.{Outcome}
-use Rattle.answers.specs.declared.Outcome.the-variants.{Refused, Stored, Delivered}
 use Rattle.rules.specs.calls.Message.{messageAnswer, messageStorage}
+use Rattle.answers.specs.Told.{outcomeRefused}
 use Rattle.tally.specs.declared.Tally.{Tally}
 
 -- "each stopping at 4,294,967,295"
@@ -28,9 +28,7 @@ oneRefusal t = record { answers = t .answers; refusals = stopping (t .refusals +
 
 -- "one count of answers 0 and 1, one of refusals": 0 is stored, 1 is delivered.
 abbrev pub counted : Tally → Outcome → Tally
-counted t (Refused k) = oneRefusal t
-counted t Stored = oneAnswer t
-counted t (Delivered v) = oneAnswer t
+counted t o = cond (outcomeRefused o) (oneRefusal t) (oneAnswer t)
 
 -- The same by 01's numbers.
 abbrev pub countedBy : Tally → ℕ → Tally
@@ -48,15 +46,10 @@ unfoldable pub tallied : Tally → List Outcome → Tally
 tallied t [] = t
 tallied t (o ∷ os) = tallied (counted t o) os
 
-abbrev pub isRefusal : Outcome → Bool
-isRefusal (Refused k) = true
-isRefusal Stored = false
-isRefusal (Delivered v) = false
-
 unfoldable pub answersAmong : List Outcome → ℕ
 answersAmong [] = 0
-answersAmong (o ∷ os) = cond (isRefusal o) (answersAmong os) (1 + answersAmong os)
+answersAmong (o ∷ os) = cond (outcomeRefused o) (answersAmong os) (1 + answersAmong os)
 
 unfoldable pub refusalsAmong : List Outcome → ℕ
 refusalsAmong [] = 0
-refusalsAmong (o ∷ os) = cond (isRefusal o) (1 + refusalsAmong os) (refusalsAmong os)
+refusalsAmong (o ∷ os) = cond (outcomeRefused o) (1 + refusalsAmong os) (refusalsAmong os)

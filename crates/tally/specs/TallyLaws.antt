@@ -9,10 +9,9 @@ use Rattle.state.specs.declared.Receiver.{Receiver}
 use Rattle.answers.specs.declared.Answer.{Answer}
 use Rattle.answers.specs.declared.Outcome.{Outcome}
 use Rattle.answers.specs.declared.Outcome.the-variants.{Refused, Stored, Delivered}
-use Rattle.rules.specs.calls.Admit.{senderRows, outcomeNumber}
-use Rattle.rules.specs.calls.ExactlyLaws.{message-refuses, message-given}
-use Rattle.rules.specs.calls.FirstLaws.{above, given-above}
-use Rattle.rules.specs.calls.Message.{messageRows, refused, messageAnswer, messageStorage}
+use Rattle.answers.specs.Told.{RefusedAs, outcomeTold, messageTold, OutcomeTells}
+use Rattle.rules.specs.calls.ExactlyLaws.{message-refuses, message-given, message-tells}
+use Rattle.rules.specs.calls.Message.{refused, messageAnswer, messageStorage}
 use Rattle.tally.specs.declared.Tally.{Tally}
 use Rattle.tally.specs.Tally.{most, stopping, counted, SaveACount, countedBy, tallied, answersAmong, refusalsAmong}
 
@@ -22,21 +21,21 @@ module _ (t : Tally) (w : Receiver) (storage packet : List ℕ) where
   abbrev answer : Answer
   answer = messageAnswer w (length storage) packet
 
-  pub save-a-count : (k : ℕ) → messageAnswer w (length storage) packet .outcome ≡ Refused k → SaveACount t w storage packet
+  pub save-a-count : (k : ℕ) → RefusedAs (messageTold (messageAnswer w (length storage) packet) .outcome .number) k → SaveACount t w storage packet
   unfolding refused
   save-a-count k e =
       let r : (answer ≡ refused w k) × (messageStorage w storage packet ≡ storage) = message-refuses w storage packet k (message-given w storage packet k e) in
-      record { same-state = ap (λ (a : Answer). a .state) (r .0); same-storage = r .1; one-refusal = ap (counted t) e }
+      record { same-state = ap (λ (a : Answer). a .state) (r .0); same-storage = r .1; one-refusal = ap (λ (a : Answer). counted t (a .outcome)) (r .0) }
 
   -- "one count of answers 0 and 1, one of refusals": which count grows is told by 01's number alone.
-  pub by-number : counted t (messageAnswer w (length storage) packet .outcome) ≡ countedBy t (outcomeNumber (messageAnswer w (length storage) packet .outcome))
-  unfolding messageRows senderRows above
-  by-number = by (answer .outcome) refl
+  pub by-number : counted t (messageAnswer w (length storage) packet .outcome)
+      ≡ countedBy t (messageTold (messageAnswer w (length storage) packet) .outcome .number)
+  by-number = by (answer .outcome) (message-tells w storage packet)
     where
-      by : (o : Outcome) → answer .outcome ≡ o → counted t o ≡ countedBy t (outcomeNumber o)
-      by (Refused k) e = rw (lt-leb k 1 (given-above 1 (messageRows w (length storage) packet) k refl (message-given w storage packet k e)))
-      by Stored e = refl
-      by (Delivered v) e = refl
+      by : (o : Outcome) → OutcomeTells o → counted t o ≡ countedBy t (outcomeTold o .number)
+      by (Refused k) more = rw (lt-leb k 1 (omega (arith, more)))
+      by Stored _ = refl
+      by (Delivered v) _ = refl
 
 -- ---- a count
 

@@ -6,11 +6,11 @@ use Rattle.capture_run.proofs.alive_step.Tie as tie
 alive-requires : tie.Need-alive-requires
 alive-requires c κs = search needs
 
-call-number-requires : tie.Need-call-number-requires
-call-number-requires c κs = search needs
+number-requires : tie.Need-number-requires
+number-requires c κs = search needs
 
 returns : tie.Need-returns
-returns c = simp (c .call-number .ensures, c .before .before .alive .ensures)
+returns c = simp (c .number .ensures, c .before .before .alive .ensures)
 
 pub alive-step-spec : {M : Type 1} → statement M
-alive-step-spec = tie.close (tie.spec alive-requires call-number-requires returns)
+alive-step-spec = tie.close (tie.spec alive-requires number-requires returns)

@@ -9,12 +9,12 @@ clock-of-requires c κs = search needs
 clock-requires : tie.Need-clock-requires
 clock-requires c κs = search needs
 
-call-number-requires : tie.Need-call-number-requires
-call-number-requires c κs = search needs
+number-requires : tie.Need-number-requires
+number-requires c κs = search needs
 
 returns : tie.Need-returns
-returns c = simp (c .call-number .ensures, c .before .before .clock .ensures, c .before .before .before .clock-of .ensures)
+returns c = simp (c .number .ensures, c .before .before .clock .ensures, c .before .before .before .clock-of .ensures)
 
 pub clock-step-spec : {M : Type 1} → statement M
 clock-step-spec =
-    tie.close (tie.spec clock-of-requires clock-requires call-number-requires returns)
+    tie.close (tie.spec clock-of-requires clock-requires number-requires returns)

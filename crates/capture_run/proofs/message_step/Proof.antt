@@ -10,11 +10,11 @@ message-requires c κs = search needs
 part-requires : tie.Need-part-requires
 part-requires c κs = search needs
 
-outcome-number-requires : tie.Need-outcome-number-requires
-outcome-number-requires c κs = search needs
+number-requires : tie.Need-number-requires
+number-requires c κs = search needs
 
-printed-verdict-requires : tie.Need-printed-verdict-requires
-printed-verdict-requires c κs = search needs
+verdict-requires : tie.Need-verdict-requires
+verdict-requires c κs = search needs
 
 same-length : tie.Need-same-length
 same-length c = search needs
@@ -23,7 +23,7 @@ returns : tie.Need-returns
 unfolding stepOf
 returns c =
     let m = c .before .before .before .before .before .before .before in
-    (simp (c .printed-verdict .ensures, c .before .outcome-number .ensures, c .before .before .part .ensures, m .message .ensures .0, m .message .ensures .1), m .message .ensures .1)
+    (simp (c .verdict .ensures, c .before .number .ensures, c .before .before .part .ensures, m .message .ensures .0, m .message .ensures .1), m .message .ensures .1)
 
 pub message-step-spec : {M : Type 1} → statement M
 message-step-spec =
@@ -31,7 +31,7 @@ message-step-spec =
     (tie.spec
     message-requires
     part-requires
-    outcome-number-requires
-    printed-verdict-requires
+    number-requires
+    verdict-requires
     same-length
     returns)

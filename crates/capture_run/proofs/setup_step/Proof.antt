@@ -10,19 +10,19 @@ setup-of-requires c κs = search needs
 setup-requires : tie.Need-setup-requires
 setup-requires c κs = search needs
 
-call-number-requires : tie.Need-call-number-requires
-call-number-requires c κs = search needs
+number-requires : tie.Need-number-requires
+number-requires c κs = search needs
 
 returns : tie.Need-returns
 returns c =
     let k = c .before .before in
-    rw (← k .before .before .setup-of .ensures, ← k .before .setup .ensures, ← k .call-number .ensures, eq-eqb _ _ (c .before .if1 .taken))
+    rw (← k .before .before .setup-of .ensures, ← k .before .setup .ensures, ← k .number .ensures, eq-eqb _ _ (c .before .if1 .taken))
 
 returns-2 : tie.Need-returns-2
 returns-2 c =
     let k = c .before in
-    rw (← k .before .before .setup-of .ensures, ← k .before .setup .ensures, ← k .call-number .ensures, ne-eqb _ _ (c .if1 .left))
+    rw (← k .before .before .setup-of .ensures, ← k .before .setup .ensures, ← k .number .ensures, ne-eqb _ _ (c .if1 .left))
 
 pub setup-step-spec : {M : Type 1} → statement M
 setup-step-spec =
-    tie.close (tie.spec setup-of-requires setup-requires call-number-requires returns returns-2)
+    tie.close (tie.spec setup-of-requires setup-requires number-requires returns returns-2)

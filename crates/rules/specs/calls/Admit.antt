@@ -16,7 +16,6 @@ use Rattle.state.specs.declared.Message.{Message}
 use Rattle.state.specs.declared.Sender.{Sender}
 use Rattle.answers.specs.declared.Admission.{Admission}
 use Rattle.answers.specs.declared.Dropped.{Dropped}
-use Rattle.answers.specs.declared.Outcome.{Outcome}
 use Rattle.answers.specs.declared.Outcome.the-variants.{Refused, Stored, Delivered}
 use Rattle.rules.specs.calls.First.{Row, row, first}
 use Rattle.state.specs.State.{noMessage, joinedAs}
@@ -133,15 +132,3 @@ notAdmitted s k = record { outcome = Refused k; held = 0; dropped = noneDropped;
 unfoldable pub admission : Bool → ℕ → ℕ → Sender → Head → Admission
 admission test n1 clock s h =
     cond (eqb (first (senderRows test n1 s h)) 0) (admitted n1 clock s h) (notAdmitted s (first (senderRows test n1 s h)))
-
--- The number of a refusal, 0 where there is none.
-abbrev pub refusedNumber : Outcome → ℕ
-refusedNumber (Refused k) = k
-refusedNumber Stored = 0
-refusedNumber (Delivered v) = 0
-
--- "0 stored, done or written; 1 delivered."
-abbrev pub outcomeNumber : Outcome → ℕ
-outcomeNumber (Refused k) = k
-outcomeNumber Stored = 0
-outcomeNumber (Delivered v) = 1

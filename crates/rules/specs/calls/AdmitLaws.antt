@@ -19,7 +19,8 @@ use Rattle.state.specs.declared.Sender.{Sender}
 use Rattle.answers.specs.declared.Admission.{Admission}
 use Rattle.answers.specs.declared.Dropped.{Dropped}
 use Rattle.answers.specs.declared.Outcome.{Outcome}
-use Rattle.rules.specs.calls.Admit.{sameVersion, rejoins, sameCut, verdictOf, senderRows, mapBefore, mapAfter, fills, noneDropped, droppedBy, admitted, notAdmitted, admission, refusedNumber}
+use Rattle.rules.specs.calls.Admit.{sameVersion, rejoins, sameCut, verdictOf, senderRows, mapBefore, mapAfter, fills, noneDropped, droppedBy, admitted, notAdmitted, admission}
+use Rattle.answers.specs.Told.{refusedNumber}
 use Rattle.rules.specs.calls.First.{first}
 use Rattle.rules.specs.calls.FirstLaws.{first-none}
 

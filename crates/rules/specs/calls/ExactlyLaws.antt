@@ -1,107 +1,128 @@
 -- "given exactly when": each call gives a number if and only if the number's row applies and no row before it does, on arbitrary
 -- arguments; and "A refusal alters no state, stamp, clock, storage or buffer." Assumes nothing.
 --
--- For each call, `…-refuses` says what is answered where a number is given, whole, and `…-given` that it is given nowhere else.
-use mathlib.Core.Path.{_≡_, refl, sym, ap}
+-- For each call, `…-refuses` says what is answered where a number is given, whole, `…-given` that it is told nowhere else, and `…-tells` that
+-- no other answer is told like the call's own.
+use mathlib.Core.Path.{_≡_, refl, sym, _∙_}
 use mathlib.Core.Bool.{Bool, true, false, cond}
 use mathlib.Core.List.{List}
-use Prim.Native.Nat.{ℕ}
+use Prim.Native.Nat.{ℕ, _≤_, _<_}
+use native.Mathlib.Omega.{arith}
 use lib.Dec.{eqb, ltb}
 use lib.ListN.{length}
-use borrow.Author.Tests.{ne-eqb}
+use borrow.Author.Tests.{eqb-true, eqb-false, ne-eqb}
 use Rattle.octets.specs.Split.{cond-case, never-both}
+use Rattle.ring.specs.declared.Verdict.{Verdict}
+use Rattle.ring.specs.declared.Verdict.the-variants.{Unchecked, First, Restart, Repeat, Next, Gap}
+use Rattle.ring.specs.Check.{verdictNumber, isRepeat}
+use Rattle.header.specs.declared.Head.{Head}
 use Rattle.header.specs.Head.{headOf}
 use Rattle.state.specs.declared.Receiver.{Receiver}
-use Rattle.answers.specs.declared.Call.{Call}
+use Rattle.state.specs.declared.Sender.{Sender}
 use Rattle.answers.specs.declared.Call.the-variants as call
 use Rattle.answers.specs.declared.Missing.{Missing}
 use Rattle.answers.specs.declared.Missing.the-variants as missing
 use Rattle.answers.specs.declared.Outcome.{Outcome}
-use Rattle.answers.specs.declared.Outcome.the-variants as outcome
 use Rattle.answers.specs.declared.Setup.{Setup}
 use Rattle.answers.specs.declared.Started.{Started}
-use Rattle.rules.specs.calls.Admit.{senderRows, admitted, fills, refusedNumber}
+use Rattle.answers.specs.Told.{leastRefusal, RefusedAs, messageTold, callNumber, clockTold, questionTold, outcomeTold, OutcomeTells, CallTells, MissingTells}
+use Rattle.rules.specs.calls.Admit.{senderRows, verdictOf, admitted, fills}
+use Rattle.rules.specs.calls.AdmitLaws.{admitted-facts}
 use Rattle.rules.specs.calls.Alive.{aliveRows, notNoted, aliveAnswer}
 use Rattle.rules.specs.calls.Clock.{clockRows, ticked, notTicked, clockAnswer}
 use Rattle.rules.specs.calls.First.{Row, first, Given}
-use Rattle.rules.specs.calls.FirstLaws.{numbered, given-first, first-given, given-some, above, rises}
+use Rattle.rules.specs.calls.FirstLaws.{numbered, given-first, first-given, above, rises, first-neither, given-above}
 use Rattle.state.specs.Table.{found}
-use Rattle.rules.specs.calls.Message.{messageRows, taken, refused, messageAnswer, messageStorage}
-use Rattle.rules.specs.calls.Question.{questionRows, firstOpen, missingOf, missingNumber, questionAnswer}
-use Rattle.rules.specs.calls.Setup.{setupWithin, setupState, setupAnswer, callNumber}
+use Rattle.rules.specs.calls.Message.{packetRows, messageRows, taken, refused, messageAnswer, messageStorage}
+use Rattle.rules.specs.calls.Question.{questionRows, firstOpen, missingOf, questionAnswer}
+use Rattle.rules.specs.calls.Setup.{setupWithin, setupState, setupAnswer}
+use Rattle.state.specs.Limits.{valid}
 use Rattle.state.specs.State.{senderAt, emptyReceiver}
 
 -- ---- for every call
 
--- An answer that is made by the first of some rows: `yes` where none applies, and `no k` where k is given. Where `yes` is no
--- refusal, k is refused exactly when it is given.
-module _ {A : Type 0} (rs : List Row) (n : numbered rs ≡ true) (yes : A) (no : ℕ → A) (refuses : A → ℕ → Type 0) where
+-- An answer that is made by the first of some rows, all with a refusal's number: `yes` where none applies, and `no k` where k is given.
+module _ {A : Type 0} (rs : List Row) (n : above 8 rs ≡ true) (yes : A) (no : ℕ → A) where
   abbrev Answer-by : A
   Answer-by = cond (eqb (first rs) 0) yes (no (first rs))
 
   given-refused : (k : ℕ) → Given rs k → Answer-by ≡ no k
-  given-refused k g = rw (given-first rs k g, ne-eqb k 0 (given-some rs k n g))
+  given-refused k g = rw (given-first rs k g, ne-eqb k 0 (λ z. omega (arith, z, given-above 8 rs k n g)))
 
-  refused-given : ((k : ℕ) → refuses yes k → ⊥) → ((j k : ℕ) → refuses (no j) k → j ≡ k) → (k : ℕ) → refuses Answer-by k → Given rs k
-  refused-given never same k r = by (eqb (first rs) 0) refl r
+  -- Where `yes` tells no refusal and `no k` tells k, a refusal with k is told only where k is given.
+  refused-given : (told : A → ℕ) → told yes < leastRefusal → ((k : ℕ) → told (no k) ≡ k) → (k : ℕ) → RefusedAs (told Answer-by) k → Given rs k
+  refused-given told low same k r = by (eqb (first rs) 0) refl r
     where
-      by : (b : Bool) → eqb (first rs) 0 ≡ b → refuses (cond {A = A} b yes (no (first rs))) k → Given rs k
-      by true e x = absurd (never k x)
-      by false e x =
-          let is : first rs ≡ k = same (first rs) k x in
-          first-given rs k is (λ z. absurd (never-both (rw (is, z)) e))
+      by : (b : Bool) → eqb (first rs) 0 ≡ b → RefusedAs (told (cond {A = A} b yes (no (first rs)))) k → Given rs k
+      by true e x = absurd (omega (arith, low, x .0, x .1))
+      by false e x = first-given rs k (sym (same (first rs)) ∙ x .0) (λ z. omega (arith, x .1, z))
 
--- ---- a refusal is told from the other answers, and by its number from other refusals
-
-abbrev outcomeRefused : Outcome → Bool
-outcomeRefused (outcome.Refused k) = true
-outcomeRefused outcome.Stored = false
-outcomeRefused (outcome.Delivered v) = false
-
-abbrev callRefused : Call → Bool
-callRefused call.Done = false
-callRefused (call.Refused k) = true
-
-abbrev missingRefused : Missing → Bool
-missingRefused (missing.Refused k) = true
-missingRefused missing.NoneOpen = false
-missingRefused (missing.Piece i c) = false
+  -- What holds of `yes` and of every refusal holds of the answer.
+  tells-by : (P : A → Type 0) → (first rs ≡ 0 → P yes) → ((k : ℕ) → leastRefusal ≤ k → P (no k)) → P Answer-by
+  tells-by P done refuses = cond-case P (eqb (first rs) 0) yes (no (first rs))
+      (λ e. done (eqb-true (first rs) 0 e))
+      (λ e. refuses (first rs) (omega (arith, given-above 8 rs (first rs) n (first-given rs (first rs) refl (eqb-false (first rs) 0 e)))))
 
 -- ---- the message call: 9 and 11 to 20
 
+-- "0 where nothing is delivered"
+verdict-some : (v : Verdict) → isRepeat v ≡ false → 1 ≤ verdictNumber v
+verdict-some Unchecked e = omega arith
+verdict-some First e = omega arith
+verdict-some Restart e = omega arith
+verdict-some Repeat e = absurd (never-both refl e)
+verdict-some Next e = omega arith
+verdict-some (Gap k) e = omega arith
+
 module _ (w : Receiver) (storage packet : List ℕ) where
-  message-numbered : numbered (messageRows w (length storage) packet) ≡ true
-  unfolding messageRows senderRows numbered
-  message-numbered = refl
+  abbrev h : Head
+  h = headOf packet
+
+  abbrev s : Sender
+  s = senderAt w (found w h)
+
+  message-above : above 8 (messageRows w (length storage) packet) ≡ true
+  unfolding messageRows senderRows above
+  message-above = refl
 
   pub message-rises : rises (messageRows w (length storage) packet) ≡ true
   unfolding messageRows senderRows rises above
   message-rises = refl
 
-  never-refused : (k : ℕ) → taken w (found w (headOf packet)) (senderAt w (found w (headOf packet))) (headOf packet) .outcome ≡ outcome.Refused k → ⊥
+  taken-told : messageTold (taken w (found w h) s h) .outcome .number < leastRefusal
   unfolding taken admitted
-  never-refused k e = cond-case (λ (o : Outcome). o ≡ outcome.Refused k → ⊥) (fills (senderAt w (found w (headOf packet))) (headOf packet)) _ _
-      (λ f z. never-both refl (sym (ap outcomeRefused z))) (λ f z. never-both refl (sym (ap outcomeRefused z))) e
+  taken-told = cond-case (λ (o : Outcome). outcomeTold o .number < leastRefusal) (fills s h) _ _ (λ _. omega arith) (λ _. omega arith)
+
+  taken-tells : first (messageRows w (length storage) packet) ≡ 0 → OutcomeTells (taken w (found w h) s h .outcome)
+  unfolding messageRows taken admitted numbered
+  taken-tells none =
+      let late = first-neither (packetRows (valid w) (w .count) (found w h) (length storage) packet h) (senderRows (w .test) (w .n1) s h) refl none .1 in
+      cond-case OutcomeTells (fills s h) _ _ (λ _. verdict-some (verdictOf (w .n1) s h) (admitted-facts (w .test) (w .n1) s h late .no-repeat)) (λ _. tt)
 
   pub message-refuses : (k : ℕ) → Given (messageRows w (length storage) packet) k
       → (messageAnswer w (length storage) packet ≡ refused w k) × (messageStorage w storage packet ≡ storage)
   unfolding messageAnswer messageStorage
   message-refuses k g = (
-    given-refused (messageRows w (length storage) packet) message-numbered _ (refused w) (λ a j. a .outcome ≡ outcome.Refused j) k g,
-    given-refused (messageRows w (length storage) packet) message-numbered _ (λ j. storage) (λ a j. ⊥) k g,
+    given-refused (messageRows w (length storage) packet) message-above _ (refused w) k g,
+    given-refused (messageRows w (length storage) packet) message-above _ (λ j. storage) k g,
   )
 
-  pub message-given : (k : ℕ) → messageAnswer w (length storage) packet .outcome ≡ outcome.Refused k → Given (messageRows w (length storage) packet) k
+  pub message-given : (k : ℕ) → RefusedAs (messageTold (messageAnswer w (length storage) packet) .outcome .number) k → Given (messageRows w (length storage) packet) k
   unfolding messageAnswer refused
-  message-given = refused-given (messageRows w (length storage) packet) message-numbered _ (refused w) (λ a j. a .outcome ≡ outcome.Refused j) never-refused
-      (λ j k e. ap refusedNumber e)
+  message-given =
+      refused-given (messageRows w (length storage) packet) message-above _ (refused w) (λ a. messageTold a .outcome .number) taken-told (λ k. refl)
+
+  pub message-tells : OutcomeTells (messageAnswer w (length storage) packet .outcome)
+  unfolding messageAnswer refused
+  message-tells =
+      tells-by (messageRows w (length storage) packet) message-above _ (refused w) (λ a. OutcomeTells (a .outcome)) taken-tells (λ k more. more)
 
 -- ---- the alive call: 9, 12, 13, 14, 22
 
 module _ (w : Receiver) (packet : List ℕ) where
-  alive-numbered : numbered (aliveRows w packet) ≡ true
-  unfolding aliveRows numbered
-  alive-numbered = refl
+  alive-above : above 8 (aliveRows w packet) ≡ true
+  unfolding aliveRows above
+  alive-above = refl
 
   pub alive-rises : rises (aliveRows w packet) ≡ true
   unfolding aliveRows rises above
@@ -109,19 +130,22 @@ module _ (w : Receiver) (packet : List ℕ) where
 
   pub alive-refuses : (k : ℕ) → Given (aliveRows w packet) k → aliveAnswer w packet ≡ notNoted w k
   unfolding aliveAnswer
-  alive-refuses = given-refused (aliveRows w packet) alive-numbered _ (notNoted w) (λ a j. a .call ≡ call.Refused j)
+  alive-refuses = given-refused (aliveRows w packet) alive-above _ (notNoted w)
 
-  pub alive-given : (k : ℕ) → aliveAnswer w packet .call ≡ call.Refused k → Given (aliveRows w packet) k
+  pub alive-given : (k : ℕ) → RefusedAs (callNumber (aliveAnswer w packet .call)) k → Given (aliveRows w packet) k
   unfolding aliveAnswer
-  alive-given = refused-given (aliveRows w packet) alive-numbered _ (notNoted w) (λ a j. a .call ≡ call.Refused j)
-      (λ k e. never-both refl (sym (ap callRefused e))) (λ j k e. ap callNumber e)
+  alive-given = refused-given (aliveRows w packet) alive-above _ (notNoted w) (λ a. callNumber (a .call)) (omega arith) (λ k. refl)
+
+  pub alive-tells : CallTells (aliveAnswer w packet .call)
+  unfolding aliveAnswer
+  alive-tells = tells-by (aliveRows w packet) alive-above _ (notNoted w) (λ a. CallTells (a .call)) (λ _. tt) (λ k more. more)
 
 -- ---- the clock call: 9, 21
 
 module _ (w : Receiver) (now : ℕ) where
-  clock-numbered : numbered (clockRows w now) ≡ true
-  unfolding numbered
-  clock-numbered = refl
+  clock-above : above 8 (clockRows w now) ≡ true
+  unfolding above
+  clock-above = refl
 
   pub clock-rises : rises (clockRows w now) ≡ true
   unfolding rises above
@@ -129,32 +153,37 @@ module _ (w : Receiver) (now : ℕ) where
 
   pub clock-refuses : (k : ℕ) → Given (clockRows w now) k → clockAnswer w now ≡ notTicked w k
   unfolding clockAnswer
-  clock-refuses = given-refused (clockRows w now) clock-numbered _ (notTicked w) (λ a j. a .call ≡ call.Refused j)
+  clock-refuses = given-refused (clockRows w now) clock-above _ (notTicked w)
 
-  pub clock-given : (k : ℕ) → clockAnswer w now .call ≡ call.Refused k → Given (clockRows w now) k
+  pub clock-given : (k : ℕ) → RefusedAs (clockTold (clockAnswer w now) .number) k → Given (clockRows w now) k
   unfolding clockAnswer ticked notTicked
-  clock-given = refused-given (clockRows w now) clock-numbered _ (notTicked w) (λ a j. a .call ≡ call.Refused j)
-      (λ k e. never-both refl (sym (ap callRefused e))) (λ j k e. ap callNumber e)
+  clock-given = refused-given (clockRows w now) clock-above _ (notTicked w) (λ a. clockTold a .number) (omega arith) (λ k. refl)
+
+  pub clock-tells : CallTells (clockAnswer w now .call)
+  unfolding clockAnswer ticked notTicked
+  clock-tells = tells-by (clockRows w now) clock-above _ (notTicked w) (λ a. CallTells (a .call)) (λ _. tt) (λ k more. more)
 
 -- ---- the question: 9
 
 module _ (w : Receiver) where
-  question-numbered : numbered (questionRows w) ≡ true
-  unfolding numbered
-  question-numbered = refl
+  question-above : above 8 (questionRows w) ≡ true
+  unfolding above
+  question-above = refl
 
   pub question-refuses : (k : ℕ) → Given (questionRows w) k → questionAnswer w ≡ missing.Refused k
   unfolding questionAnswer
-  question-refuses = given-refused (questionRows w) question-numbered _ missing.Refused (λ a j. a ≡ missing.Refused j)
+  question-refuses = given-refused (questionRows w) question-above _ missing.Refused
 
-  pub question-given : (k : ℕ) → questionAnswer w ≡ missing.Refused k → Given (questionRows w) k
+  pub question-given : (k : ℕ) → RefusedAs (questionTold (questionAnswer w) .number) k → Given (questionRows w) k
   unfolding questionAnswer
-  question-given = refused-given (questionRows w) question-numbered _ missing.Refused (λ a j. a ≡ missing.Refused j)
-      (λ k e. never-missing k (ap missingRefused e)) (λ j k e. ap missingNumber e)
-    where
-      never-missing : (k : ℕ) → missingRefused (missingOf w (firstOpen w)) ≡ true → ⊥
-      never-missing k e = cond-case (λ (a : Missing). missingRefused a ≡ true → ⊥) (ltb (firstOpen w) (w .count)) _ _
-          (λ f z. never-both z refl) (λ f z. never-both z refl) e
+  question-given = refused-given (questionRows w) question-above _ missing.Refused (λ a. questionTold a .number)
+      (cond-case (λ (a : Missing). questionTold a .number < leastRefusal) (ltb (firstOpen w) (w .count)) _ _ (λ _. omega arith) (λ _. omega arith))
+      (λ k. refl)
+
+  pub question-tells : MissingTells (questionAnswer w)
+  unfolding questionAnswer
+  question-tells = tells-by (questionRows w) question-above _ missing.Refused MissingTells
+      (λ _. cond-case MissingTells (ltb (firstOpen w) (w .count)) _ _ (λ _. tt) (λ _. tt)) (λ k more. more)
 
 -- ---- setup: 10
 
@@ -163,11 +192,15 @@ pub setup-refuses : (q : Setup) → setupWithin q ≡ false → setupAnswer q �
 unfolding setupAnswer
 setup-refuses q e = rw e
 
-pub setup-given : (q : Setup) (k : ℕ) → setupAnswer q .call ≡ call.Refused k → (k ≡ 10) × (setupWithin q ≡ false)
+pub setup-given : (q : Setup) (k : ℕ) → RefusedAs (callNumber (setupAnswer q .call)) k → (k ≡ 10) × (setupWithin q ≡ false)
 unfolding setupAnswer
 setup-given q k = by (setupWithin q)
   where
-    by : (b : Bool) → (cond {A = Started} b (record { call = call.Done; state = setupState q }) (record { call = call.Refused 10; state = emptyReceiver })) .call ≡ call.Refused k
+    by : (b : Bool) → RefusedAs (callNumber ((cond {A = Started} b (record { call = call.Done; state = setupState q }) (record { call = call.Refused 10; state = emptyReceiver })) .call)) k
         → (k ≡ 10) × (b ≡ false)
-    by true e = absurd (never-both refl (sym (ap callRefused e)))
-    by false e = (sym (ap callNumber e), refl)
+    by true r = absurd (omega (arith, r .0, r .1))
+    by false r = (sym (r .0), refl)
+
+pub setup-tells : (q : Setup) → CallTells (setupAnswer q .call)
+unfolding setupAnswer
+setup-tells q = cond-case (λ (a : Started). CallTells (a .call)) (setupWithin q) _ _ (λ _. tt) (λ _. omega arith)

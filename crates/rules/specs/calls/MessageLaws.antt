@@ -18,7 +18,8 @@ use Rattle.state.specs.declared.Receiver.{Receiver}
 use Rattle.answers.specs.declared.Admission.{Admission}
 use Rattle.answers.specs.declared.Answer.{Answer}
 use Rattle.answers.specs.declared.Where.{Where}
-use Rattle.rules.specs.calls.Admit.{senderRows, admission, admitted, refusedNumber}
+use Rattle.answers.specs.Told.{refusedNumber}
+use Rattle.rules.specs.calls.Admit.{senderRows, admission, admitted}
 use Rattle.rules.specs.calls.AdmitLaws.{Admitted, admitted-facts, admission-yes, admission-number}
 use Rattle.rules.specs.calls.First.{first}
 use Rattle.rules.specs.calls.FirstLaws.{first-here, first-none, first-append, first-neither, numbered}

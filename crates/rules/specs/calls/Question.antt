@@ -32,9 +32,3 @@ missingOf w i = cond (ltb i (w .count)) (Piece i (lowestMissing (senderAt w i .m
 unfoldable pub questionAnswer : Receiver → Missing
 questionAnswer w =
     cond (eqb (first (questionRows w)) 0) (missingOf w (firstOpen w)) (Refused (first (questionRows w)))
-
--- 01's number for each case; the values are those that the case holds.
-abbrev pub missingNumber : Missing → ℕ
-missingNumber (Refused k) = k
-missingNumber NoneOpen = 0
-missingNumber (Piece i c) = 0

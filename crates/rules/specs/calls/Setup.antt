@@ -9,7 +9,6 @@ use Rattle.header.specs.Codes.{within}
 use Rattle.state.specs.declared.Address.{Address}
 use Rattle.state.specs.declared.Sender.{Sender}
 use Rattle.state.specs.declared.Receiver.{Receiver}
-use Rattle.answers.specs.declared.Call.{Call}
 use Rattle.answers.specs.declared.Call.the-variants.{Done, Refused}
 use Rattle.answers.specs.declared.Started.{Started}
 use Rattle.answers.specs.declared.Setup.{Setup}
@@ -37,8 +36,3 @@ setupState q = stateOf (settingsBy q) 0 (newSenders (q .senders) (q .count))
 unfoldable pub setupAnswer : Setup → Started
 setupAnswer q =
     cond (setupWithin q) (record { call = Done; state = setupState q }) (record { call = Refused 10; state = emptyReceiver })
-
--- "0 stored, done or written"
-abbrev pub callNumber : Call → ℕ
-callNumber Done = 0
-callNumber (Refused k) = k

@@ -5,14 +5,12 @@ use mathlib.Core.Path.{_≡_}
 use mathlib.Core.Bool.{Bool, cond, _&&_, _||_}
 use mathlib.Core.List.{List, [], _∷_}
 use lib.Dec.{eqb}
-use Rattle.ring.specs.declared.Verdict.{Verdict}
 use Rattle.header.specs.Head.{headOf}
 use Rattle.state.specs.declared.Address.{Address}
 use Rattle.state.specs.Limits.{sameAddress}
 use Rattle.state.specs.Table.{source}
 use Rattle.answers.specs.declared.Answer.{Answer}
-use Rattle.answers.specs.declared.Outcome.the-variants.{Delivered}
-use Rattle.rules.specs.calls.Admit.{refusedNumber}
+use Rattle.answers.specs.Told.{refusedNumber, messageTold}
 use Rattle.rules.specs.promised.Join.{Joined}
 use Rattle.rules.specs.pasts.Past.{World, Event, message, alive, clock, aside, after, answerTo, partTo, Said, Answers, answers}
 
@@ -41,9 +39,9 @@ unfoldable pub acceptedIn : Address → List (List ℕ) → (es : List Event) �
 acceptedIn a so-far [] rs = so-far
 acceptedIn a so-far (e ∷ es) rs = acceptedIn a (acceptedOf a so-far e (rs .0)) es (rs .1)
 
--- What is promised of a packet that comes after calls.
+-- What is promised of a packet that comes after calls, if it is answered with "1 delivered".
 abbrev pub Safe : World → List Event → List ℕ → Type 0
 Safe w es packet =
-    (v : Verdict) → answerTo (after w es) packet .outcome ≡ Delivered v
+    messageTold (answerTo (after w es) packet) .outcome .number ≡ 1
     → Joined (acceptedWith (source (headOf packet)) (acceptedIn (source (headOf packet)) [] es (answers w es)) packet (answerTo (after w es) packet)) packet
     (partTo (after w es) packet)

@@ -27,7 +27,7 @@ use Rattle.state.specs.declared.Sender.{Sender}
 use Rattle.state.specs.Limits.{addressAt}
 use Rattle.state.specs.State.{senderAt}
 use Rattle.answers.specs.declared.Outcome.{Outcome}
-use Rattle.answers.specs.declared.Outcome.the-variants.{Refused, Stored, Delivered}
+use Rattle.answers.specs.Told.{notDelivered, deliveredAs, outcomeTold}
 use Rattle.rules.specs.promised.Accepted.{isAccepted}
 use Rattle.rules.specs.calls.Clock.{clockAnswer}
 use Rattle.rules.specs.pasts.Past.{World, Event, message, alive, clock, aside, step, answerTo}
@@ -171,10 +171,10 @@ pub data OneApplies (m : Sent) (es : List Event) (c : ℕ) : Type 0 where
 -- "then it is delivered …, octet for octet, at the arrival of the last missing piece": the outcome of the call with the PDU of piece c, and the
 -- part that is then handed over. The verdict is what the check gave after the past.
 pub record Arrives (m : Sent) (verdict : Verdict) (es : List Event) (c : ℕ) (outcome : Outcome) (part : List ℕ) : Type 0 where
-  pub delivered : LastMissing m es c → (outcome ≡ Delivered verdict) × (part ≡ m .octets)
-  pub stored : OneOfSeveral m es c → outcome ≡ Stored
-  pub held : CameBefore m es c → outcome ≡ Refused 20
+  pub delivered : LastMissing m es c → (outcomeTold outcome ≡ deliveredAs verdict) × (part ≡ m .octets)
+  pub stored : OneOfSeveral m es c → outcomeTold outcome ≡ notDelivered 0
+  pub held : CameBefore m es c → outcomeTold outcome ≡ notDelivered 20
 
 -- "once": all came before, so the message was delivered. "If its version is not 0" is asked for this alone.
 abbrev pub Once : Sent → List Event → Outcome → Type 0
-Once m es outcome = AllCame m es → outcome ≡ Refused 17
+Once m es outcome = AllCame m es → outcomeTold outcome ≡ notDelivered 17

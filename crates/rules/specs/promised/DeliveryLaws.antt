@@ -22,6 +22,7 @@ use Rattle.state.specs.Limits.{addressAt, valid, settingsOf, isN1, isDropTime, 
 use Rattle.state.specs.State.{sendersMost, senderAt, Settings, settingsFrom}
 use Rattle.state.specs.WithinLaws.{valid-settings, valid-sender, message-facts}
 use Rattle.answers.specs.declared.Outcome.the-variants.{Delivered}
+use Rattle.answers.specs.Told.{outcomeTold}
 use Rattle.rules.specs.promised.Accepted.{isAccepted, acceptedOf, acceptedIn}
 use Rattle.rules.specs.promised.AcceptedLaws.{accepted-is}
 use Rattle.rules.specs.calls.Admit.{rejoins}
@@ -220,11 +221,11 @@ module _ (g : Settings) (m : Sent) (k : Cuttable m) (admits : eqb (m .mode) 1 &&
     arrives : Arrives m (verdictFor (g .n1) m last) es c (answerTo w p .outcome) (partTo w p) × (m .version .0 ≢ 0 → Once m es (answerTo w p .outcome))
     arrives = (
       record {
-        delivered = λ x. (gave (x .0) (x .1), handed (x .0) (x .1));
-        stored = λ x. outcome-is ∙ phase-more g m k admits last new here Before c p is (o .phase) (x .0) (x .1 .0) (x .1 .1) (x .1 .2) (x .1 .3);
-        held = λ x. outcome-is ∙ phase-held g m k admits last new here Before c p is (o .phase) (x .0) (x .1 .0) (x .1 .1) (x .1 .2);
+        delivered = λ x. (ap outcomeTold (gave (x .0) (x .1)), handed (x .0) (x .1));
+        stored = λ x. ap outcomeTold (outcome-is ∙ phase-more g m k admits last new here Before c p is (o .phase) (x .0) (x .1 .0) (x .1 .1) (x .1 .2) (x .1 .3));
+        held = λ x. ap outcomeTold (outcome-is ∙ phase-held g m k admits last new here Before c p is (o .phase) (x .0) (x .1 .0) (x .1 .1) (x .1 .2));
       },
-      λ some all. outcome-is ∙ phase-once g m k admits last new here Before c p is one some (o .phase) all,
+      λ some all. ap outcomeTold (outcome-is ∙ phase-once g m k admits last new here Before c p is one some (o .phase) all),
     )
 
 -- ---- any past

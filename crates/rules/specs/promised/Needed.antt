@@ -20,9 +20,9 @@ use Rattle.state.specs.declared.Sender.{Sender}
 use Rattle.state.specs.Limits.{addressAt}
 use Rattle.state.specs.State.{senderAt}
 use Rattle.answers.specs.declared.Outcome.{Outcome}
-use Rattle.answers.specs.declared.Outcome.the-variants.{Delivered}
 use Rattle.answers.specs.declared.Setup.{Setup}
 use Rattle.rules.specs.promised.Delivery.{Sent, sentBy, PieceOf, verdictFor, May, Between, OnlyPieces, Arrives, Once}
+use Rattle.answers.specs.Told.{deliveredAs, outcomeTold}
 use Rattle.rules.specs.calls.Message.{area}
 use Rattle.rules.specs.pasts.Past.{World, Event, message, clock, aside, question, after, answerTo, partTo, Start}
 use Rattle.rules.specs.calls.Setup.{setupAnswer}
@@ -121,7 +121,7 @@ pub record Met (e : Example) : Type 0 where
   pub may : May (sent e) 0 (e .past) (before e)
   pub between : Between (OnlyPieces (sent e)) (sent e) 0 (before e) (e .since)
   pub is-piece : PieceOf (sent e) (e .piece) (packet e)
-  pub delivered : (outcome e ≡ Delivered (verdict e)) × (partTo (finds e) (packet e) ≡ e .octets)
+  pub delivered : (outcomeTold (outcome e) ≡ deliveredAs (verdict e)) × (partTo (finds e) (packet e) ≡ e .octets)
 
 -- All that the theorem asks for but one condition, and not what it promises.
 pub record Needed (x : Condition) (e : Example) : Type 0 where

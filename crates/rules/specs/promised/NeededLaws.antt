@@ -26,8 +26,8 @@ use Rattle.state.specs.declared.Address.{Address}
 use Rattle.state.specs.Limits.{lastWithin, messageWithin, senderWithin, newAmong, addressesWithin, addressAt, sendersWithin, settingsOf, valid}
 use Rattle.state.specs.State.{senderAt, firstWhere}
 use Rattle.answers.specs.declared.Outcome.{Outcome}
-use Rattle.answers.specs.declared.Outcome.the-variants.{Refused, Stored, Delivered}
-use Rattle.rules.specs.calls.Admit.{rejoins, sameCut, senderRows, mapAfter, fills, senderAfter, admitted, outcomeNumber}
+use Rattle.answers.specs.Told.{OutcomeTold, deliveredAs, outcomeTold}
+use Rattle.rules.specs.calls.Admit.{rejoins, sameCut, senderRows, mapAfter, fills, senderAfter, admitted}
 use Rattle.rules.specs.promised.CameLaws.{decided, dec-by, dec-or, dec-true, dec-eq, dec-le, dec-octets, dec-cut, dec-piece, dec-brings, dec-came, others, one-applies}
 use Rattle.rules.specs.calls.Clock.{aged, agedSenders, mapWhere, ticked, clockAnswer}
 use Rattle.rules.specs.promised.Delivery.{Sent, PieceOf, isOpen, May, Allowed, Between, OnlyPieces, OneApplies, is-last, is-one, came-before, all-came, Arrives, Once}
@@ -67,18 +67,21 @@ dec-some m p = dec-by
 -- ---- what is promised of the piece that comes
 
 module _ (m : Sent) (es : List Event) (c : ℕ) where
-  promisedBy : Verdict → OneApplies m es c → Outcome
-  promisedBy v (is-last x) = Delivered v
-  promisedBy v (is-one x) = Stored
-  promisedBy v (came-before x) = Refused 20
-  promisedBy v (all-came x) = Refused 17
+  promisedBy : OneApplies m es c → ℕ
+  promisedBy (is-last x) = 1
+  promisedBy (is-one x) = 0
+  promisedBy (came-before x) = 20
+  promisedBy (all-came x) = 17
 
-  promised-is : (v : Verdict) (o : Outcome) (part : List ℕ) → Arrives m v es c o part × Once m es o → (x : OneApplies m es c) → o ≡ promisedBy v x
+  abbrev told : OutcomeTold → ℕ
+  told t = t .number
+
+  promised-is : (v : Verdict) (o : Outcome) (part : List ℕ) → Arrives m v es c o part × Once m es o → (x : OneApplies m es c) → outcomeTold o .number ≡ promisedBy x
   unfolding promisedBy
-  promised-is v o part a (is-last x) = a .0 .delivered x .0
-  promised-is v o part a (is-one x) = a .0 .stored x
-  promised-is v o part a (came-before x) = a .0 .held x
-  promised-is v o part a (all-came x) = a .1 x
+  promised-is v o part a (is-last x) = ap told (a .0 .delivered x .0)
+  promised-is v o part a (is-one x) = ap told (a .0 .stored x)
+  promised-is v o part a (came-before x) = ap told (a .0 .held x)
+  promised-is v o part a (all-came x) = ap told (a .1 x)
 
 -- ---- whether a condition holds
 
@@ -142,8 +145,8 @@ record Row : Type 0 where
   answered : ℕ
   same : Bool
 
-promise : Example → Outcome
-promise e = promisedBy (sent e) (e .since) (e .piece) (verdict e) (one-applies (sent e) (e .since) (e .piece))
+promise : Example → ℕ
+promise e = promisedBy (sent e) (e .since) (e .piece) (one-applies (sent e) (e .since) (e .piece))
 
 -- All that is computed with stands in this line: who unfolds `row` unfolds it.
 row : Example → Row
@@ -161,8 +164,8 @@ unfolding
 row e = record {
   is-piece = ite (dec-piece (sent e) (e .piece) (packet e)) true false;
   fail = failing e conditions;
-  promised = outcomeNumber (promise e);
-  answered = outcomeNumber (outcome e);
+  promised = promise e;
+  answered = outcomeTold (outcome e) .number;
   same = eqb (e .promised) (e .answered);
 }
 
@@ -173,7 +176,7 @@ example-row : row example ≡ said example [] true
 unfolding row
 example-row = refl
 
-example-delivered : (outcome example ≡ Delivered (verdict example)) × (partTo (finds example) (packet example) ≡ example .octets)
+example-delivered : (outcomeTold (outcome example) ≡ deliveredAs (verdict example)) × (partTo (finds example) (packet example) ≡ example .octets)
 unfolding row
 example-delivered = (refl, refl)
 
@@ -232,7 +235,7 @@ module _ (e : Example) where
       by (yes h) rest j = rest j
       by (no k) rest j = ⊎-elim (λ (q : y ≡ z). λ h. k (subst (λ (x : Condition). Holds x e) q h)) rest (List·Memᴰ·cases-cons j)
 
-  promise-is : Promise e → outcome e ≡ promise e
+  promise-is : Promise e → outcomeTold (outcome e) .number ≡ promise e
   unfolding promise
   promise-is a = promised-is (sent e) (e .since) (e .piece) (verdict e) (outcome e) (partTo (finds e) (packet e)) a _
 
@@ -250,7 +253,7 @@ module _ (e : Example) where
     holds = λ y out. decided-by (decide y e) (λ n. out (subst (List·Memᴰ y) q (fails-in conditions y (in-conditions y) n)));
     fails = λ y i. in-fails conditions y (subst (List·Memᴰ y) (sym q) i);
     kept-to = λ a.
-        let z : e .promised ≡ e .answered = sym (ap (λ (r : Row). r .promised) r) ∙ sym (ap outcomeNumber (promise-is a)) ∙ ap (λ (r : Row). r .answered) r in
+        let z : e .promised ≡ e .answered = sym (ap (λ (r : Row). r .promised) r) ∙ sym (promise-is a) ∙ ap (λ (r : Row). r .answered) r in
         sym (ap (λ (r : Row). r .same) r) ∙ eq-eqb (e .promised) (e .answered) z;
   }
     where

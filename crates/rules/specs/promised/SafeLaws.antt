@@ -27,10 +27,12 @@ use Rattle.state.specs.Table.{source, found}
 use Rattle.state.specs.WithinLaws.{valid-sender, same-is}
 use Rattle.answers.specs.declared.Answer.{Answer}
 use Rattle.answers.specs.declared.Outcome.the-variants.{Refused, Stored, Delivered}
+use Rattle.answers.specs.ToldLaws.{delivered-outcome}
 use Rattle.rules.specs.promised.Accepted.{isAccepted, hasOpened, acceptedWith, acceptedOf, acceptedIn, Safe}
 use Rattle.rules.specs.promised.AcceptedLaws.{accepted-is, opens-is}
 use Rattle.rules.specs.calls.Admit.{rejoins, fills, admitted}
 use Rattle.rules.specs.calls.AdmitLaws.{admitted-facts}
+use Rattle.rules.specs.calls.ExactlyLaws.{message-tells}
 use Rattle.rules.specs.promised.Join.{Joined, behind}
 use Rattle.rules.specs.promised.JoinLaws.{Inv, next-inv, tick-inv, partView, delivered-joined}
 use Rattle.rules.specs.calls.Message.{area, mostPdu, lengthWrong, headWithin, messageNumber, messageAnswer, messageStorage, storageAfter, liesAt, taken, refused}
@@ -330,4 +332,7 @@ module _ (w : World) (start : Start w) (es : List Event) (p : List ℕ) (vd : Ve
 -- "Whether or not those conditions hold, nothing is ever delivered but a join of pieces accepted since that message last opened, one for
 -- each piece number."
 pub safe : (w : World) → Start w → (es : List Event) (packet : List ℕ) → Safe w es packet
-safe w start es packet v gave = safe-join w start es packet v gave
+safe w start es packet gave =
+    let v = after w es in
+    let is = delivered-outcome (answerTo v packet .outcome) (message-tells (v .state) (v .storage) packet) gave in
+    safe-join w start es packet (is .0) (is .1)

@@ -45,8 +45,8 @@ element-copy-out-s c =
 admit-requires : tie.Need-admit-requires
 admit-requires c κs = search needs
 
-refused-number-requires : tie.Need-refused-number-requires
-refused-number-requires c κs = search needs
+refusal-requires : tie.Need-refusal-requires
+refusal-requires c κs = search needs
 
 returns-2 : tie.Need-returns-2
 unfolding refused
@@ -55,7 +55,7 @@ returns-2 c =
     let l = k .before in
     let head = l .before .before in
     let a = head .before .before .before .args in
-    pass-late (a .t1) (now (a .storage)) (now (a .packet)) _ _ _ (head .read-head .ensures) (l .before .of .ensures) (l .look .ensures) _ (k .packet-number .ensures) (c .before .before .before .before .if1 .left) _ (c .before .before .admit .ensures) _ (c .before .refused-number .ensures) (c .if2 .taken)
+    pass-late (a .t1) (now (a .storage)) (now (a .packet)) _ _ _ (head .read-head .ensures) (l .before .of .ensures) (l .look .ensures) _ (k .packet-number .ensures) (c .before .before .before .before .if1 .left) _ (c .before .before .admit .ensures) _ (c .before .refusal .ensures) (c .if2 .taken)
 
 store-requires : tie.Need-store-requires
 store-requires c κs =
@@ -66,7 +66,7 @@ store-requires c κs =
     let z = c .before .before .before .before .before .if1 .left in
     let none = c .before .if2 .left in (
       pass-place (a .t1) (now (a .storage)) (now (a .packet)) _ _ _ (head .read-head .ensures) (l .before .of .ensures) (l .look .ensures) _ (k .packet-number .ensures) z,
-      pass-admitted (a .t1) (now (a .storage)) (now (a .packet)) _ _ _ (head .read-head .ensures) (l .before .of .ensures) (l .look .ensures) _ (k .packet-number .ensures) z _ (c .before .before .before .admit .ensures) _ (c .before .before .refused-number .ensures) none .cut-possible,
+      pass-admitted (a .t1) (now (a .storage)) (now (a .packet)) _ _ _ (head .read-head .ensures) (l .before .of .ensures) (l .look .ensures) _ (k .packet-number .ensures) z _ (c .before .before .before .admit .ensures) _ (c .before .before .refusal .ensures) none .cut-possible,
       pass-facts (a .t1) (now (a .storage)) (now (a .packet)) _ _ _ (head .read-head .ensures) (l .before .of .ensures) (l .look .ensures) _ (k .packet-number .ensures) z .size,
     )
 
@@ -115,7 +115,7 @@ returns-3 c =
     let z = c .before .before .before .before .before .before .before .before .before .before .before .if1 .left in
     let late = c .before .before .before .before .before .before .before in
     let none = late .if2 .left in
-    pass-taken (a .t1) (now (a .storage)) (now (a .packet)) _ _ _ (head .read-head .ensures) (l .before .of .ensures) (l .look .ensures) _ (k .packet-number .ensures) z _ (late .before .before .admit .ensures) _ (late .before .refused-number .ensures) none _ _ (c .where-to .ensures) (c .before .before .before .before .before .store .ensures)
+    pass-taken (a .t1) (now (a .storage)) (now (a .packet)) _ _ _ (head .read-head .ensures) (l .before .of .ensures) (l .look .ensures) _ (k .packet-number .ensures) z _ (late .before .before .admit .ensures) _ (late .before .refusal .ensures) none _ _ (c .where-to .ensures) (c .before .before .before .before .before .store .ensures)
 
 pub message-spec : {M : Type 1} → statement M
 message-spec =
@@ -130,7 +130,7 @@ message-spec =
     mul-s
     element-copy-out-s
     admit-requires
-    refused-number-requires
+    refusal-requires
     returns-2
     store-requires
     where-to-requires
