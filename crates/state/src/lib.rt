@@ -294,10 +294,7 @@ impl Receiver {
     {
         let count = self.count;
         if Receiver::PLACES < count as usize {
-            return Look {
-                valid: false,
-                at: 0,
-            };
+            return Look::OUTSIDE;
         }
         let clock = self.clock;
         let mut valid = self.settings_within();
@@ -314,10 +311,7 @@ impl Receiver {
             i += 1;
         }
         if !valid {
-            return Look {
-                valid: false,
-                at: 0,
-            };
+            return Look::OUTSIDE;
         }
         Look { valid, at }
     }
@@ -330,6 +324,12 @@ pub struct Look {
 }
 
 impl Look {
+    // A state outside its limits.
+    const OUTSIDE: Look = Look {
+        valid: false,
+        at: 0,
+    };
+
     // The place that was found, once the sender at place i was looked at too; how many were looked at if it was none of them.
     fn next_place(at: u8, i: u8, here: bool) -> u8
         requires { ⌜ i < sendersMost ⌝ }
