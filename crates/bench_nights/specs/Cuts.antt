@@ -5,20 +5,11 @@ use lib.ListN.{length}
 use Rattle.header.specs.declared.Given.{Given}
 use Rattle.cut.specs.declared.cutter.Cutting.{Cutting}
 use Rattle.cut.specs.Cutter.{cutterAnswer, cutterBuffer, cutterTold}
+use Rattle.rules.specs.promised.Needed.{headed}
 
 -- The header values of the first sender's message with this number.
 abbrev pub givenOf : ℕ → Given
-givenOf number = record {
-  field = record { 0 = 1 };
-  node = record { 0 = 1 };
-  da = 0;
-  version = record { 0 = 1 };
-  number = record { 0 = number };
-  mctl = 0;
-  tcd = 1;
-  mode = 0;
-  pri = 0;
-}
+givenOf number = headed 1 1 number 0
 
 -- What the buffer holds once the pieces 1 to c are cut.
 unfoldable pub cutsBuffer : Given → List ℕ → ℕ → List ℕ → ℕ → List ℕ

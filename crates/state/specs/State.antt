@@ -65,7 +65,7 @@ pub record Settings : Type 0 where
 abbrev pub settingsFrom : Receiver → Settings
 settingsFrom w = record { test = w .test; n1 = w .n1; t = w .t; count = w .count }
 
--- The rest of a state: the time and the senders.
+-- A state: its settings, the time and the senders.
 abbrev pub stateOf : Settings → ℕ → List Sender → Receiver
 stateOf g clock senders = record { test = g .test; n1 = g .n1; t = g .t; clock = clock; count = g .count; senders = senders }
 

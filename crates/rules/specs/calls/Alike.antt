@@ -12,9 +12,10 @@ use Rattle.state.specs.State.{noMessage, noHeard, noSender, senderAt, settingsF
 
 -- What is looked at of a sender: not "the record of a message not open", nor "the stamp and al_tm_out of a sender not alive".
 unfoldable pub seen : Sender → Sender
-seen s = heardAs
-    (joinedAs s (s .last) (s .«open») (cond (s .«open») (s .message) noMessage))
-    (s .alive) (cond (s .alive) (s .heard) noHeard)
+seen s =
+    let message = cond (s .«open») (s .message) noMessage in
+    let heard = cond (s .alive) (s .heard) noHeard in
+    heardAs (joinedAs s (s .last) (s .«open») message) (s .alive) heard
 
 -- ---- "never looked at"
 

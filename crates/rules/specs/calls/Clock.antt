@@ -24,11 +24,15 @@ drops t ms s = s .«open» && leb t (ms - s .message .stamp)
 abbrev pub dies : ℕ → Sender → Bool
 dies ms s = s .alive && leb (1000 * s .heard .timeout) (ms - s .heard .stamp)
 
--- The record of a message that was dropped, and the stamp and al_tm_out of a sender that died, are written 0.
+-- "The record of a message not open, the stamp and al_tm_out of a sender not alive … are written 0".
+abbrev pub droppedIf : Bool → Sender → Sender
+droppedIf so s = joinedAs s (s .last) (s .«open» && not so) (cond so noMessage (s .message))
+
+abbrev pub deadIf : Bool → Sender → Sender
+deadIf so s = heardAs s (s .alive && not so) (cond so noHeard (s .heard))
+
 unfoldable pub aged : ℕ → ℕ → Sender → Sender
-aged t now s = heardAs
-    (joinedAs s (s .last) (s .«open» && not (drops t now s)) (cond (drops t now s) noMessage (s .message)))
-    (s .alive && not (dies now s)) (cond (dies now s) noHeard (s .heard))
+aged t now s = deadIf (dies now s) (droppedIf (drops t now s) s)
 
 -- The first k senders aged.
 unfoldable pub agedSenders : ℕ → ℕ → List Sender → ℕ → List Sender
