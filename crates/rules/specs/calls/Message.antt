@@ -14,6 +14,7 @@ use Rattle.cut.specs.Pieces.{mostOctets}
 use Rattle.cut.specs.Possible.{place, messageLength, ownLength}
 use Rattle.state.specs.declared.Sender.{Sender}
 use Rattle.state.specs.declared.Receiver.{Receiver}
+use Rattle.answers.specs.declared.Admission.{Admission}
 use Rattle.answers.specs.declared.Answer.{Answer}
 use Rattle.answers.specs.declared.Outcome.{Outcome}
 use Rattle.answers.specs.declared.Outcome.the-variants.{Refused, Stored, Delivered}
@@ -82,14 +83,14 @@ whereBy (Delivered v) i h = liesAt i h
 unfoldable pub withSender : Receiver → ℕ → Sender → Receiver
 withSender w i s = withSenders w (set (w .senders) i s)
 
+-- The answer, by what the record of the sender at place i made of the PDU.
+abbrev pub answerOf : Receiver → ℕ → Admission → Where → Answer
+answerOf w i o place = record { outcome = o .outcome; held = o .held; dropped = o .dropped; place = place; state = withSender w i (o .sender) }
+
 unfoldable pub taken : Receiver → ℕ → Sender → Head → Answer
-taken w i s h = record {
-  outcome = admitted (w .n1) (w .clock) s h .outcome;
-  held = admitted (w .n1) (w .clock) s h .held;
-  dropped = admitted (w .n1) (w .clock) s h .dropped;
-  place = whereBy (admitted (w .n1) (w .clock) s h .outcome) i h;
-  state = withSender w i (admitted (w .n1) (w .clock) s h .sender);
-}
+taken w i s h =
+    let o = admitted (w .n1) (w .clock) s h in
+    answerOf w i o (whereBy (o .outcome) i h)
 
 -- "returns nothing more"; "A refusal alters no state, stamp, clock, storage or buffer."
 unfoldable pub refused : Receiver → ℕ → Answer

@@ -25,7 +25,7 @@ use Rattle.rules.specs.calls.First.{first}
 use Rattle.rules.specs.calls.FirstLaws.{first-here, first-none, first-append, first-neither, numbered}
 use Rattle.state.specs.Limits.{valid}
 use Rattle.state.specs.LimitsLaws.{valid-count}
-use Rattle.rules.specs.calls.Message.{area, mostPdu, lengthWrong, headWithin, packetRows, messageRows, messageNumber, storageAfter, whereBy, withSender, taken, refused, messageAnswer, messageStorage}
+use Rattle.rules.specs.calls.Message.{area, mostPdu, lengthWrong, headWithin, packetRows, messageRows, messageNumber, storageAfter, whereBy, taken, refused, messageAnswer, messageStorage, answerOf}
 use Rattle.state.specs.Table.{source, found, lookAt}
 use Rattle.state.specs.State.{sendersMost, senderAt}
 use Rattle.state.specs.TableLaws.{look-valid, look-place}
@@ -176,7 +176,7 @@ module _ (w : Receiver) (storage packet : List ℕ) (h : Head) (a : Address) (l 
         pass-admitted = admitted-facts (w .test) (w .n1) (senderAt w (l .at)) h rows-zero
 
         pub pass-taken : (p : Where) (s : List ℕ) → p ≡ whereBy (o .outcome) (l .at) h → s ≡ storageAfter storage (l .at) h packet
-            → Answered w storage packet (record { outcome = o .outcome; held = o .held; dropped = o .dropped; place = p; state = withSender w (l .at) (o .sender) }) s
+            → Answered w storage packet (answerOf w (l .at) o p) s
         unfolding taken
         pass-taken p s ep es =
             let yes : o ≡ admitted (w .n1) (w .clock) (senderAt w (l .at)) h
