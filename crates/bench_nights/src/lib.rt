@@ -127,11 +127,11 @@ fn given_of(number: u32) -> Given
 // ---- one packet
 
 // The sum with one more answer in it: its number or its verdict, the pieces held, and the length that was handed over.
-fn with_answer(sum: u64, o: Outcome, held: u8, length: usize) -> u64
-    ensures { λ r. ⌜ r ≡ summed sum o held length ⌝ }
+fn with_answer(sum: u64, o: Outcome, held: u8, size: usize) -> u64
+    ensures { λ r. ⌜ r ≡ summed sum o held size ⌝ }
 {
     let answer = o.refusal() as u64 + o.verdict() as u64 + (held as u64) * 256;
-    wrapping_add_u64(wrapping_add_u64(sum, answer), length as u64)
+    wrapping_add_u64(wrapping_add_u64(sum, answer), size as u64)
 }
 
 // The sum with one more answer of the cutter in it.

@@ -34,19 +34,19 @@ pub enum Next {
     Cut,
     Bad,
     // whole, with this many octets of contents
-    Whole { kind: Kind, length: usize },
+    Whole { kind: Kind, size: usize },
 }
 
-pub fn kind_of(tag: u8, length: usize) -> Kind
-    ensures { λ r. ⌜ r ≡ kindOf tag length ⌝ }
+pub fn kind_of(tag: u8, size: usize) -> Kind
+    ensures { λ r. ⌜ r ≡ kindOf tag size ⌝ }
 {
-    if (tag == 1) & ((length == 10) | (length == 13) | (length == 16) | (length == 19)) {
+    if (tag == 1) & ((size == 10) | (size == 13) | (size == 16) | (size == 19)) {
         return Kind::Setup;
     }
     if tag == 2 {
         return Kind::Message;
     }
-    if (tag == 3) & (length == 8) {
+    if (tag == 3) & (size == 8) {
         return Kind::Clock;
     }
     if tag == 4 {
@@ -65,15 +65,15 @@ pub fn next_field(octets: &[u8]) -> Next
     if octets.len() < HEAD {
         return Next::Cut;
     }
-    let length = read2(octets, 1) as usize;
-    let kind = kind_of(read1(octets, 0), length);
+    let size = read2(octets, 1) as usize;
+    let kind = kind_of(read1(octets, 0), size);
     if is_bad(kind) {
         return Next::Bad;
     }
-    if octets.len() - HEAD < length {
+    if octets.len() - HEAD < size {
         return Next::Cut;
     }
-    Next::Whole { kind, length }
+    Next::Whole { kind, size }
 }
 
 fn is_bad(kind: Kind) -> bool
@@ -115,19 +115,19 @@ pub fn setup_of(contents: &[u8]) -> Setup
 }
 
 // How many senders a setup of this many octets has.
-fn senders_of(length: usize) -> u8
-    ensures { λ r. ⌜ r ≡ sendersOf length ⌝ }
+fn senders_of(size: usize) -> u8
+    ensures { λ r. ⌜ r ≡ sendersOf size ⌝ }
 {
-    if length == 10 {
+    if size == 10 {
         return 1;
     }
-    if length == 13 {
+    if size == 13 {
         return 2;
     }
-    if length == 16 {
+    if size == 16 {
         return 3;
     }
-    if length == 19 { 4 } else { 0 }
+    if size == 19 { 4 } else { 0 }
 }
 
 fn address_in(contents: &[u8], at: usize) -> Address

@@ -50,7 +50,7 @@ pub fn turn(state: Receiver, storage: &mut [u8], read: &[u8]) -> Step
         },
         Next::Cut => end(state),
         Next::Bad => end(state),
-        Next::Whole { kind, length } => step_of(state, storage, kind, contents(read, length)),
+        Next::Whole { kind, size } => step_of(state, storage, kind, contents(read, size)),
     }
 }
 
@@ -169,7 +169,7 @@ pub fn wanted(head: &[u8]) -> usize
         Next::Nothing => 0,
         Next::Cut => size_behind(head),
         Next::Bad => 0,
-        Next::Whole { kind: _, length: _ } => 0,
+        Next::Whole { kind: _, size: _ } => 0,
     }
 }
 

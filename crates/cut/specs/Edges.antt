@@ -14,41 +14,41 @@ use Rattle.cut.specs.Cutter.{cutFor}
 pub data Edge : Type 0 where
   -- n octets at u a piece: how many pieces; ML; the BSIZE of piece c
   count : (n u : ℕ) → ℕ → Edge
-  length : (n u : ℕ) → ℕ → Edge
-  size : (n u c : ℕ) → ℕ → Edge
+  ml : (n u : ℕ) → ℕ → Edge
+  bsize : (n u c : ℕ) → ℕ → Edge
   -- with N1 16, last number R and the same version: the verdict on SEQ
   verdict : (r s : ℕ) → Verdict → Edge
 
 abbrev pub same : Verdict → Verdict → Bool
 same a b = eqb (verdictNumber a) (verdictNumber b) && eqb (verdictSkipped a) (verdictSkipped b)
 
-pub holds : Edge → Bool
-holds (count n u t) = eqb (pieces n u) t
-holds (length n u k) = eqb (cutFor n u 1 .ml) k
-holds (size n u c k) = eqb (cutFor n u c .bsize) k
-holds (verdict r s v) = same (check 16 (record { 0 = 5 }) (record { 0 = r }) (record { 0 = 5 }) (record { 0 = s })) v
+pub met : Edge → Bool
+met (count n u t) = eqb (pieces n u) t
+met (ml n u k) = eqb (cutFor n u 1 .ml) k
+met (bsize n u c k) = eqb (cutFor n u c .bsize) k
+met (verdict r s v) = same (check 16 (record { 0 = 5 }) (record { 0 = r }) (record { 0 = 5 }) (record { 0 = s })) v
 
 pub all : List Edge → Bool
 all [] = true
-all (e ∷ es) = holds e && all es
+all (e ∷ es) = met e && all es
 
 pub edges : List Edge
 edges =
     -- "n 4500, u 1332: BSIZE 1396 three times, then 568 (Figure 54)."
-    count 4500 1332 4 ∷ length 4500 1332 4564 ∷ size 4500 1332 1 1396 ∷ size 4500 1332 2 1396 ∷ size 4500 1332 3 1396 ∷ size 4500 1332 4 568
+    count 4500 1332 4 ∷ ml 4500 1332 4564 ∷ bsize 4500 1332 1 1396 ∷ bsize 4500 1332 2 1396 ∷ bsize 4500 1332 3 1396 ∷ bsize 4500 1332 4 568
     -- "n 4500, u 1396: last BSIZE 376."
-    ∷ count 4500 1396 4 ∷ size 4500 1396 4 376
+    ∷ count 4500 1396 4 ∷ bsize 4500 1396 4 376
     -- "n 16384, u 1396: 12 pieces, last BSIZE 1092."
-    ∷ count 16384 1396 12 ∷ size 16384 1396 12 1092
+    ∷ count 16384 1396 12 ∷ bsize 16384 1396 12 1092
     -- "n 16384, u 256: 64 pieces."
     ∷ count 16384 256 64
     -- "n 1396, u 1396: one. n 1397: two, last BSIZE 65. n 0: one, ML 64."
-    ∷ count 1396 1396 1 ∷ count 1397 1396 2 ∷ size 1397 1396 2 65 ∷ count 0 1396 1 ∷ length 0 1396 64
+    ∷ count 1396 1396 1 ∷ count 1397 1396 2 ∷ bsize 1397 1396 2 65 ∷ count 0 1396 1 ∷ ml 0 1396 64
     -- "R 100: 101 next, 100 and 85 repeat, 84 gap of 2147483630, 103 gap of 2."
     ∷ verdict 100 101 Next ∷ verdict 100 100 Repeat ∷ verdict 100 85 Repeat ∷ verdict 100 84 (Gap 2147483630) ∷ verdict 100 103 (Gap 2)
     -- "R M: 1 next. R 3: 2147483635 repeat, 2147483634 gap."
     ∷ verdict M 1 Next ∷ verdict 3 2147483635 Repeat ∷ verdict 3 2147483634 (Gap 2147483630) ∷ []
 
 pub every-edge : all edges ≡ true
-unfolding all holds edges pieces pieceLength check rule4 remainder
+unfolding all met edges pieces pieceLength check rule4 remainder
 every-edge = refl

@@ -115,7 +115,7 @@ pub fn field_call(octets: &[u8]) {
         Next::Nothing => line(b'F', &[0, 0, 0, 7]),
         Next::Cut => line(b'F', &[1, 0, 0, 7]),
         Next::Bad => line(b'F', &[2, 0, 0, 7]),
-        Next::Whole { kind, length } => whole_line(kind, capture_fields::contents(octets, length)),
+        Next::Whole { kind, size } => whole_line(kind, capture_fields::contents(octets, size)),
     }
 }
 

@@ -3,13 +3,13 @@ use Prim.Native.Nat.{ℕ, _+_, _*_, _%_}
 use mathlib.Core.List.{List, [], _∷_}
 
 -- "s = (31 × s + octet) mod 2^32"
-unfoldable pub step : ℕ → ℕ → ℕ
-step s octet = (31 * s + octet) % 4294967296
+unfoldable pub withOctet : ℕ → ℕ → ℕ
+withOctet s octet = (31 * s + octet) % 4294967296
 
 -- "for each octet in order"
 unfoldable pub sumFrom : ℕ → List ℕ → ℕ
 sumFrom s [] = s
-sumFrom s (octet ∷ octets) = sumFrom (step s octet) octets
+sumFrom s (octet ∷ octets) = sumFrom (withOctet s octet) octets
 
 -- "s = 7"
 unfoldable pub sumOf : List ℕ → ℕ

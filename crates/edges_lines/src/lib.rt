@@ -3,7 +3,7 @@
 // No contract can say what is written, so a function that only prints has none: it answers nothing, and nothing is lent to it to write.
 ghost use Prim.Native.Nat.{_%_};
 ghost use mathlib.Core.Path.{_≡_};
-ghost use Rattle.edges_lines.specs.Sum.{step, sumOf};
+ghost use Rattle.edges_lines.specs.Sum.{withOctet, sumOf};
 
 pub mod calls;
 pub mod record;
@@ -57,7 +57,7 @@ pub fn sum(octets: &[u8]) -> u64
 
 // A sum is below 2^32, so the first remainder alters nothing; it keeps the product within 64 bits.
 fn with_octet(s: u64, octet: u8) -> u64
-    ensures { λ r. ⌜ r ≡ step (s % 4294967296) octet ⌝ }
+    ensures { λ r. ⌜ r ≡ withOctet (s % 4294967296) octet ⌝ }
 {
     (31 * (s % 4_294_967_296) + octet as u64) % 4_294_967_296
 }

@@ -14,11 +14,11 @@ pub fn behind_header(packet: &[u8]) -> &[u8]
 }
 
 // A message of several pieces: the storage from where it starts.
-fn stored_part(storage: &[u8], start: usize, length: usize) -> &[u8]
-    ensures { λ r. ⌜ now r ≡ storedPart (now (storage .entry)) start length ⌝ }
+fn stored_part(storage: &[u8], start: usize, size: usize) -> &[u8]
+    ensures { λ r. ⌜ now r ≡ storedPart (now (storage .entry)) start size ⌝ }
 {
-    let part = run(storage, start, length);
-    if part.len() < length {
+    let part = run(storage, start, size);
+    if part.len() < size {
         &part[..0]
     } else {
         part

@@ -6,7 +6,7 @@ ghost use mathlib.Core.Path.{_≡_};
 ghost use Prim.Native.Nat.{_+_};
 ghost use lib.ListN.{length};
 ghost use Rattle.rules.specs.calls.Message.{messageAnswer, messageStorage};
-ghost use Rattle.tally.specs.Tally.{stopping, counted};
+ghost use Rattle.tally.specs.Tally.{stopping, counted as countedOf};
 use answers::Answer;
 use answers::Outcome;
 use state::Receiver;
@@ -32,7 +32,7 @@ impl Tally {
 pub fn message(tally: &mut Tally, state: Receiver, storage: &mut [u8], packet: &[u8]) -> Answer
     ensures answer { λ r. ⌜ r ≡ messageAnswer state (length (now (storage .entry))) (now (packet .entry)) ⌝ }
     ensures stored { λ _. ⌜ now (storage .exit) ≡ messageStorage state (now (storage .entry)) (now (packet .entry)) ⌝ }
-    ensures tallied { λ r. ⌜ now (tally .exit) ≡ counted (now (tally .entry)) (r .outcome) ⌝ }
+    ensures tallied { λ r. ⌜ now (tally .exit) ≡ countedOf (now (tally .entry)) (r .outcome) ⌝ }
 {
     let a = receiver::message::message(state, storage, packet);
     let outcome = a.outcome;
@@ -42,7 +42,7 @@ pub fn message(tally: &mut Tally, state: Receiver, storage: &mut [u8], packet: &
 
 // "one count of answers 0 and 1, one of refusals"
 pub fn counted(tally: Tally, outcome: Outcome) -> Tally
-    ensures { λ r. ⌜ r ≡ counted tally outcome ⌝ }
+    ensures { λ r. ⌜ r ≡ countedOf tally outcome ⌝ }
 {
     let answers = tally.answers;
     let refusals = tally.refusals;

@@ -20,8 +20,8 @@ returns-2 c = simp (ne-eqb _ _ (c .before .if1 .left), lt-ltb _ _ (c .if2 .taken
 read2-requires : tie.Need-read2-requires
 read2-requires c κs = search needs
 
-cast-length : tie.Need-cast-length
-cast-length c = search needs
+cast-size : tie.Need-cast-size
+cast-size c = search needs
 
 read1-requires : tie.Need-read1-requires
 read1-requires c κs = search needs
@@ -60,7 +60,7 @@ next-field-spec =
     returns
     returns-2
     read2-requires
-    cast-length
+    cast-size
     read1-requires
     kind-of-requires
     is-bad-requires

@@ -6,7 +6,7 @@ use native.Mathlib.Omega.{arith}
 use denote.Ref.{now}
 use lib.ListN.{length, drop}
 use Rattle.edges_lines.specs.Sum.{sumFrom, sumOf}
-use Rattle.edges_lines.specs.SumLaws.{step-below, sum-next, sum-end}
+use Rattle.edges_lines.specs.SumLaws.{sum-below, sum-next, sum-end}
 use Rattle.edges_lines.proofs.sum.Statement.{statement}
 use Rattle.edges_lines.proofs.sum.Tie as tie
 
@@ -37,7 +37,7 @@ loop-again c =
     let octets = now (c .before .before .before .before .before .args .octets) in
     let loop = c .before .before .before .loop in
     let taken = c .with-octet .ensures in
-    (omega arith, rw taken (step-below _ _), ap (λ x. sumFrom x (drop (loop .i + 1) octets)) taken ∙ sum-next octets (loop .i) (loop .s) (c .before .before .loop-test .taken) (loop .inv .1) ∙ loop .inv .2)
+    (omega arith, rw taken (sum-below _ _), ap (λ x. sumFrom x (drop (loop .i + 1) octets)) taken ∙ sum-next octets (loop .i) (loop .s) (c .before .before .loop-test .taken) (loop .inv .1) ∙ loop .inv .2)
 
 returns : tie.Need-returns Inv-loop μ-loop
 returns c = sym (sum-end _ (c .before .loop .i) (c .before .loop .s) (c .loop-test .left)) ∙ c .before .loop .inv .2

@@ -41,12 +41,12 @@ slice-aggregate-result c = search needs
 returns : tie.Need-returns
 returns c =
     let a = c .before .before .before .before .args in
-    short (now (a .storage)) (a .start) (a .length) (rw (c .before .before .run .ensures) at (c .before .if1 .taken))
+    short (now (a .storage)) (a .start) (a .size) (rw (c .before .before .run .ensures) at (c .before .if1 .taken))
 
 returns-2 : tie.Need-returns-2
 returns-2 c =
     let a = c .before .before .before .args in
-    c .before .run .ensures ∙ whole (now (a .storage)) (a .start) (a .length) (rw (c .before .run .ensures) at (c .if1 .left))
+    c .before .run .ensures ∙ whole (now (a .storage)) (a .start) (a .size) (rw (c .before .run .ensures) at (c .if1 .left))
 
 pub stored-part-spec : {M : Type 1} → statement M
 stored-part-spec = tie.close (tie.spec run-requires slice-aggregate-result returns returns-2)
