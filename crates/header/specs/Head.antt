@@ -10,7 +10,7 @@ use Rattle.header.specs.declared.Cut.{Cut}
 use Rattle.header.specs.declared.Head.{Head}
 use Rattle.header.specs.Codes.{isMode, isPri}
 use Rattle.header.specs.Layout.{layout}
-use Rattle.header.specs.Places.{Field, place, headerSize, rows}
+use Rattle.header.specs.Places.{Field, place, headerSize, slots}
 use Rattle.header.specs.Places.Field.{hType, ml, domain, dataField, node, da, vSeq, seq, mCtl, inqId, tcd, ver, gtid, mode, pver, pri, cbn, tbn, bsize, fui}
 
 -- The number at a field's place.
@@ -66,7 +66,7 @@ value h fui = 0
 
 -- The 64 octets.
 unfoldable pub header : Head → List ℕ
-header h = layout headerSize (rows (value h))
+header h = layout headerSize (slots (value h))
 
 -- A buffer with the header written at its front. One that is shorter than a header stays.
 unfoldable pub headed : List ℕ → Head → List ℕ

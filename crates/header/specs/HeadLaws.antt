@@ -12,32 +12,32 @@ use Rattle.octets.specs.Run.{laid}
 use Rattle.octets.specs.RunLaws.{laid-fits}
 use Rattle.octets.specs.NumberLaws.{Octets, number-bound}
 use Rattle.header.specs.declared.Head.{Head}
-use Rattle.header.specs.Layout.{Row, rowOf, rowsOf, layout}
-use Rattle.header.specs.LayoutLaws.{Lit, done, lit, unlit, In, nth-in, fill, fill-layout, layout-row, length-layout}
-use Rattle.header.specs.Places.{Field, place, headerSize, rows, places-apart, places-end}
+use Rattle.header.specs.Layout.{Slot, slotOf, slotsOf, layout}
+use Rattle.header.specs.LayoutLaws.{Lit, done, lit, unlit, In, nth-in, fill, fill-layout, layout-slot, length-layout}
+use Rattle.header.specs.Places.{Field, place, headerSize, slots, places-apart, places-end}
 use Rattle.header.specs.Places.Field.{hType, ml, domain, dataField, node, da, vSeq, seq, mCtl, inqId, tcd, ver, gtid, mode, pver, pri, cbn, tbn, bsize, fui}
 use Rattle.header.specs.Head.{valueAt, value, header, headOf, headed, isFixed}
 
--- The rows that are not fixed to 0, which is what is left to lay over 64 octets of 0.
-abbrev pub litRows : Head → List Row
-litRows h = rowsOf place (value h) (hType ∷ ml ∷ dataField ∷ node ∷ da ∷ vSeq ∷ seq ∷ mCtl ∷ tcd ∷ mode ∷ pver ∷ pri ∷ cbn ∷ tbn ∷ bsize ∷ [])
+-- The slots that are not fixed to 0, which is what is left to lay over 64 octets of 0.
+abbrev pub litSlots : Head → List Slot
+litSlots h = slotsOf place (value h) (hType ∷ ml ∷ dataField ∷ node ∷ da ∷ vSeq ∷ seq ∷ mCtl ∷ tcd ∷ mode ∷ pver ∷ pri ∷ cbn ∷ tbn ∷ bsize ∷ [])
 
-rows-lit : (h : Head) → Lit (rows (value h)) (litRows h)
-rows-lit h =
+slots-lit : (h : Head) → Lit (slots (value h)) (litSlots h)
+slots-lit h =
     lit (lit (unlit refl (lit (lit (lit (lit (lit (lit (unlit refl (lit (unlit refl (unlit refl
     (lit (lit (lit (lit (lit (lit (unlit refl done)))))))))))))))))))
 
 -- Laid over 64 octets of 0, they make the header.
-pub zeros-filled : (h : Head) → fill (litRows h) (replicate headerSize 0) ≡ header h
+pub zeros-filled : (h : Head) → fill (litSlots h) (replicate headerSize 0) ≡ header h
 unfolding header
 zeros-filled h =
-    fill-layout headerSize (rows (value h)) (litRows h) (replicate headerSize 0) (rows-lit h) (places-apart (value h)) (places-end (value h))
+    fill-layout headerSize (slots (value h)) (litSlots h) (replicate headerSize 0) (slots-lit h) (places-apart (value h)) (places-end (value h))
     (le-refl headerSize) (λ i q. getD-replicate {A = ℕ} headerSize i 0 0 q)
-    ∙ append-nil (layout headerSize (rows (value h)))
+    ∙ append-nil (layout headerSize (slots (value h)))
 
 pub length-header : (h : Head) → length (header h) ≡ headerSize
 unfolding header
-length-header h = length-layout headerSize (rows (value h))
+length-header h = length-layout headerSize (slots (value h))
 
 -- Laid down at the front, the header is written, all behind it stays, and a buffer that has no room for it too.
 pub laid-headed : (s : List ℕ) (h : Head) → laid s 0 (header h) ≡ headed s h
@@ -50,34 +50,34 @@ headed-fits s h room = rw (le-leb headerSize (length s) room)
 
 -- ---- what was written reads back
 
--- Every field has its row in the table.
-in-table : (v : Field → ℕ) (f : Field) → In (rowOf place v f) (rows v)
-in-table v hType = nth-in 0 (rows v) (omega arith)
-in-table v ml = nth-in 1 (rows v) (omega arith)
-in-table v domain = nth-in 2 (rows v) (omega arith)
-in-table v dataField = nth-in 3 (rows v) (omega arith)
-in-table v node = nth-in 4 (rows v) (omega arith)
-in-table v da = nth-in 5 (rows v) (omega arith)
-in-table v vSeq = nth-in 6 (rows v) (omega arith)
-in-table v seq = nth-in 7 (rows v) (omega arith)
-in-table v mCtl = nth-in 8 (rows v) (omega arith)
-in-table v inqId = nth-in 9 (rows v) (omega arith)
-in-table v tcd = nth-in 10 (rows v) (omega arith)
-in-table v ver = nth-in 11 (rows v) (omega arith)
-in-table v gtid = nth-in 12 (rows v) (omega arith)
-in-table v mode = nth-in 13 (rows v) (omega arith)
-in-table v pver = nth-in 14 (rows v) (omega arith)
-in-table v pri = nth-in 15 (rows v) (omega arith)
-in-table v cbn = nth-in 16 (rows v) (omega arith)
-in-table v tbn = nth-in 17 (rows v) (omega arith)
-in-table v bsize = nth-in 18 (rows v) (omega arith)
-in-table v fui = nth-in 19 (rows v) (omega arith)
+-- Every field has its slot in the table.
+in-table : (v : Field → ℕ) (f : Field) → In (slotOf place v f) (slots v)
+in-table v hType = nth-in 0 (slots v) (omega arith)
+in-table v ml = nth-in 1 (slots v) (omega arith)
+in-table v domain = nth-in 2 (slots v) (omega arith)
+in-table v dataField = nth-in 3 (slots v) (omega arith)
+in-table v node = nth-in 4 (slots v) (omega arith)
+in-table v da = nth-in 5 (slots v) (omega arith)
+in-table v vSeq = nth-in 6 (slots v) (omega arith)
+in-table v seq = nth-in 7 (slots v) (omega arith)
+in-table v mCtl = nth-in 8 (slots v) (omega arith)
+in-table v inqId = nth-in 9 (slots v) (omega arith)
+in-table v tcd = nth-in 10 (slots v) (omega arith)
+in-table v ver = nth-in 11 (slots v) (omega arith)
+in-table v gtid = nth-in 12 (slots v) (omega arith)
+in-table v mode = nth-in 13 (slots v) (omega arith)
+in-table v pver = nth-in 14 (slots v) (omega arith)
+in-table v pri = nth-in 15 (slots v) (omega arith)
+in-table v cbn = nth-in 16 (slots v) (omega arith)
+in-table v tbn = nth-in 17 (slots v) (omega arith)
+in-table v bsize = nth-in 18 (slots v) (omega arith)
+in-table v fui = nth-in 19 (slots v) (omega arith)
 
 -- A field's number reads back, if it fits into the field's octets, whatever stands behind the header.
 pub field-back : (h : Head) (t : List ℕ) (f : Field) → value h f < 256 ^ place f .1 → valueAt (header h ++ t) f ≡ value h f
 unfolding header
 field-back h t f fits =
-    layout-row headerSize (rowOf place (value h) f) (rows (value h)) t (in-table (value h) f) (places-apart (value h)) (places-end (value h)) fits
+    layout-slot headerSize (slotOf place (value h) f) (slots (value h)) t (in-table (value h) f) (places-apart (value h)) (places-end (value h)) fits
 
 -- Each number fits into its field's octets.
 pub record Fits (h : Head) : Type 0 where

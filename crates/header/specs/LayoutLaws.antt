@@ -1,4 +1,4 @@
--- Laws of layouts, over any rows that do not overlap: what is written row by row is the layout, and each row reads back. Assumes nothing.
+-- Laws of layouts, over any slots that do not overlap: what is written slot by slot is the layout, and each slot reads back. Assumes nothing.
 use mathlib.Core.Path.{_≡_, refl, sym, ap, _∙_}
 use mathlib.Core.Logic.{_⊎_, inl, inr, ⊎-elim}
 use mathlib.Core.Bool.{Bool, true, false, _||_}
@@ -15,7 +15,7 @@ use Rattle.octets.specs.NumberLaws.{length-octets, number-ext, number-octets-fi
 use Rattle.octets.specs.Run.{laid}
 use Rattle.octets.specs.RunLaws.{laid-in, laid-out, length-laid}
 use Rattle.octets.specs.Split.{lt-or-le, true-or-false, never-both, both, not-both, and-left, and-right, either}
-use Rattle.header.specs.Layout.{Row, end, holds, octetOf, tabulate, layout, apartFrom, apart, endsBy}
+use Rattle.header.specs.Layout.{Slot, end, spans, octetOf, tabulate, layout, apartFrom, apart, endsBy}
 
 -- ---- tabulated lists
 
@@ -34,51 +34,51 @@ octet-tabulate (suc n) f i h = ⊎-elim
     rw e (getD-at (tabulate n f) (f n) [] 0 n (length-tabulate n f)))
     (lt-or-le i n)
 
-pub length-layout : (n : ℕ) (rs : List Row) → length (layout n rs) ≡ n
+pub length-layout : (n : ℕ) (rs : List Slot) → length (layout n rs) ≡ n
 unfolding layout
 length-layout n rs = length-tabulate n (octetOf rs 0)
 
-pub octet-layout : (n : ℕ) (rs : List Row) (i : ℕ) → i < n → octet (layout n rs) i ≡ octetOf rs 0 i
+pub octet-layout : (n : ℕ) (rs : List Slot) (i : ℕ) → i < n → octet (layout n rs) i ≡ octetOf rs 0 i
 unfolding layout
 octet-layout n rs i h = octet-tabulate n (octetOf rs 0) i h
 
--- ---- which row holds a place
+-- ---- which slot spans a place
 
-holds-from : (r : Row) (i : ℕ) → holds r i ≡ true → r .start ≤ i
-holds-from r i e = leb-true (r .start) i (and-left (leb (r .start) i) (ltb i (end r)) e)
+spans-from : (r : Slot) (i : ℕ) → spans r i ≡ true → r .start ≤ i
+spans-from r i e = leb-true (r .start) i (and-left (leb (r .start) i) (ltb i (end r)) e)
 
-holds-to : (r : Row) (i : ℕ) → holds r i ≡ true → i < end r
-holds-to r i e = ltb-true i (end r) (and-right (leb (r .start) i) (ltb i (end r)) e)
+spans-to : (r : Slot) (i : ℕ) → spans r i ≡ true → i < end r
+spans-to r i e = ltb-true i (end r) (and-right (leb (r .start) i) (ltb i (end r)) e)
 
-pub in-row : (r : Row) (i : ℕ) → r .start ≤ i → i < end r → holds r i ≡ true
-in-row r i a b = both (leb (r .start) i) (ltb i (end r)) (le-leb (r .start) i a) (lt-ltb i (end r) b)
+pub in-slot : (r : Slot) (i : ℕ) → r .start ≤ i → i < end r → spans r i ≡ true
+in-slot r i a b = both (leb (r .start) i) (ltb i (end r)) (le-leb (r .start) i a) (lt-ltb i (end r) b)
 
-past-row : (r : Row) (i : ℕ) → (i < r .start) ⊎ (end r ≤ i) → holds r i ≡ false
-past-row r i o = not-both (leb (r .start) i) (ltb i (end r)) (λ a b.
+past-slot : (r : Slot) (i : ℕ) → (i < r .start) ⊎ (end r ≤ i) → spans r i ≡ false
+past-slot r i o = not-both (leb (r .start) i) (ltb i (end r)) (λ a b.
     let x : r .start ≤ i = leb-true (r .start) i a in
     let y : i < end r = ltb-true i (end r) b in
     ⊎-elim (λ (h : i < r .start). omega arith) (λ (h : end r ≤ i). omega arith) o)
 
--- A place that one row holds is held by none that is apart from it.
-apart-one : (r q : Row) (i : ℕ) → leb (end r) (q .start) || leb (end q) (r .start) ≡ true → holds r i ≡ true → holds q i ≡ false
+-- A place that one slot spans is spanned by none that is apart from it.
+apart-one : (r q : Slot) (i : ℕ) → leb (end r) (q .start) || leb (end q) (r .start) ≡ true → spans r i ≡ true → spans q i ≡ false
 apart-one r q i e h =
-    let a = holds-from r i h in
-    let b = holds-to r i h in
+    let a = spans-from r i h in
+    let b = spans-to r i h in
     ⊎-elim
-    (λ (x : leb (end r) (q .start) ≡ true). past-row q i (inl (let y = leb-true (end r) (q .start) x in omega arith)))
-    (λ (x : leb (end q) (r .start) ≡ true). past-row q i (inr (let y = leb-true (end q) (r .start) x in omega arith)))
+    (λ (x : leb (end r) (q .start) ≡ true). past-slot q i (inl (let y = leb-true (end r) (q .start) x in omega arith)))
+    (λ (x : leb (end q) (r .start) ≡ true). past-slot q i (inr (let y = leb-true (end q) (r .start) x in omega arith)))
     (either (leb (end r) (q .start)) (leb (end q) (r .start)) e)
 
-octetOf-held : (r : Row) (rs : List Row) (z i : ℕ) → holds r i ≡ true
+octetOf-spanned : (r : Slot) (rs : List Slot) (z i : ℕ) → spans r i ≡ true
     → octetOf (r ∷ rs) z i ≡ octet (octets (r .size) (r .value)) (i - r .start)
 unfolding octetOf
-octetOf-held r rs z i e = rw e
+octetOf-spanned r rs z i e = rw e
 
-octetOf-past : (r : Row) (rs : List Row) (z i : ℕ) → holds r i ≡ false → octetOf (r ∷ rs) z i ≡ octetOf rs z i
+octetOf-past : (r : Slot) (rs : List Slot) (z i : ℕ) → spans r i ≡ false → octetOf (r ∷ rs) z i ≡ octetOf rs z i
 unfolding octetOf
 octetOf-past r rs z i e = rw e
 
-module _ (r : Row) (q : Row) (rs : List Row) (a : apartFrom r (q ∷ rs) ≡ true) where
+module _ (r : Slot) (q : Slot) (rs : List Slot) (a : apartFrom r (q ∷ rs) ≡ true) where
   apart-head : leb (end r) (q .start) || leb (end q) (r .start) ≡ true
   unfolding apartFrom
   apart-head = and-left (leb (end r) (q .start) || leb (end q) (r .start)) (apartFrom r rs) a
@@ -87,16 +87,16 @@ module _ (r : Row) (q : Row) (rs : List Row) (a : apartFrom r (q ∷ rs) ≡ tru
   unfolding apartFrom
   apart-tail = and-right (leb (end r) (q .start) || leb (end q) (r .start)) (apartFrom r rs) a
 
-apart-cons : (r q : Row) (rs : List Row) → leb (end r) (q .start) || leb (end q) (r .start) ≡ true → apartFrom r rs ≡ true → apartFrom r (q ∷ rs) ≡ true
+apart-cons : (r q : Slot) (rs : List Slot) → leb (end r) (q .start) || leb (end q) (r .start) ≡ true → apartFrom r rs ≡ true → apartFrom r (q ∷ rs) ≡ true
 unfolding apartFrom
 apart-cons r q rs a b = both (leb (end r) (q .start) || leb (end q) (r .start)) (apartFrom r rs) a b
 
-octetOf-none : (r : Row) (rs : List Row) (z i : ℕ) → apartFrom r rs ≡ true → holds r i ≡ true → octetOf rs z i ≡ z
+octetOf-none : (r : Slot) (rs : List Slot) (z i : ℕ) → apartFrom r rs ≡ true → spans r i ≡ true → octetOf rs z i ≡ z
 octetOf-none r [] z i a h = unfold octetOf in refl
 octetOf-none r (q ∷ rs) z i a h =
     octetOf-past q rs z i (apart-one r q i (apart-head r q rs a) h) ∙ octetOf-none r rs z i (apart-tail r q rs a) h
 
-module _ (r : Row) (rs : List Row) (a : apart (r ∷ rs) ≡ true) where
+module _ (r : Slot) (rs : List Slot) (a : apart (r ∷ rs) ≡ true) where
   apart-first : apartFrom r rs ≡ true
   unfolding apart
   apart-first = and-left (apartFrom r rs) (apart rs) a
@@ -105,11 +105,11 @@ module _ (r : Row) (rs : List Row) (a : apart (r ∷ rs) ≡ true) where
   unfolding apart
   apart-rest = and-right (apartFrom r rs) (apart rs) a
 
-ends-cons : (n : ℕ) (r : Row) (rs : List Row) → end r ≤ n → endsBy n rs ≡ true → endsBy n (r ∷ rs) ≡ true
+ends-cons : (n : ℕ) (r : Slot) (rs : List Slot) → end r ≤ n → endsBy n rs ≡ true → endsBy n (r ∷ rs) ≡ true
 unfolding endsBy
 ends-cons n r rs h b = both (leb (end r) n) (endsBy n rs) (le-leb (end r) n h) b
 
-module _ (n : ℕ) (r : Row) (rs : List Row) (b : endsBy n (r ∷ rs) ≡ true) where
+module _ (n : ℕ) (r : Slot) (rs : List Slot) (b : endsBy n (r ∷ rs) ≡ true) where
   ends-first : end r ≤ n
   unfolding endsBy
   ends-first = leb-true (end r) n (and-left (leb (end r) n) (endsBy n rs) b)
@@ -118,38 +118,38 @@ module _ (n : ℕ) (r : Row) (rs : List Row) (b : endsBy n (r ∷ rs) ≡ true) 
   unfolding endsBy
   ends-rest = and-right (leb (end r) n) (endsBy n rs) b
 
-ends-more : (n k : ℕ) (rs : List Row) → n ≤ k → endsBy n rs ≡ true → endsBy k rs ≡ true
+ends-more : (n k : ℕ) (rs : List Slot) → n ≤ k → endsBy n rs ≡ true → endsBy k rs ≡ true
 unfolding endsBy
 ends-more n k [] h b = refl
 ends-more n k (r ∷ rs) h b =
     let f = ends-first n r rs b in
     both (leb (end r) k) (endsBy k rs) (le-leb (end r) k (omega arith)) (ends-more n k rs h (ends-rest n r rs b))
 
--- Past the end of every row the octet is what it was.
-octetOf-above : (n : ℕ) (rs : List Row) (z i : ℕ) → endsBy n rs ≡ true → n ≤ i → octetOf rs z i ≡ z
+-- Past the end of every slot the octet is what it was.
+octetOf-above : (n : ℕ) (rs : List Slot) (z i : ℕ) → endsBy n rs ≡ true → n ≤ i → octetOf rs z i ≡ z
 octetOf-above n [] z i b h = unfold octetOf in refl
 octetOf-above n (r ∷ rs) z i b h =
-    octetOf-past r rs z i (past-row r i (inr (let x = ends-first n r rs b in omega arith)))
+    octetOf-past r rs z i (past-slot r i (inr (let x = ends-first n r rs b in omega arith)))
     ∙ octetOf-above n rs z i (ends-rest n r rs b) h
 
--- ---- writing row by row
+-- ---- writing slot by slot
 
--- The rows' numbers written one after the other.
-unfoldable pub fill : List Row → List ℕ → List ℕ
+-- The slots' numbers written one after the other.
+unfoldable pub fill : List Slot → List ℕ → List ℕ
 fill [] s = s
 fill (r ∷ rs) s = fill rs (laid s (r .start) (octets (r .size) (r .value)))
 
-fill-cons : (r : Row) (rs : List Row) (s : List ℕ) → fill (r ∷ rs) s ≡ fill rs (laid s (r .start) (octets (r .size) (r .value)))
+fill-cons : (r : Slot) (rs : List Slot) (s : List ℕ) → fill (r ∷ rs) s ≡ fill rs (laid s (r .start) (octets (r .size) (r .value)))
 unfolding fill
 fill-cons r rs s = refl
 
-pub length-fill : (rs : List Row) (s : List ℕ) → length (fill rs s) ≡ length s
+pub length-fill : (rs : List Slot) (s : List ℕ) → length (fill rs s) ≡ length s
 unfolding fill
 length-fill [] s = refl
 length-fill (r ∷ rs) s =
     length-fill rs (laid s (r .start) (octets (r .size) (r .value))) ∙ length-laid s (r .start) (octets (r .size) (r .value))
 
-module _ (r : Row) (s : List ℕ) (fits : end r ≤ length s) where
+module _ (r : Slot) (s : List ℕ) (fits : end r ≤ length s) where
   run : List ℕ
   run = octets (r .size) (r .value)
 
@@ -157,21 +157,21 @@ module _ (r : Row) (s : List ℕ) (fits : end r ≤ length s) where
   unfolding run
   wide = length-octets (r .size) (r .value)
 
-  row-in : (i : ℕ) → holds r i ≡ true → octet (laid s (r .start) run) i ≡ octet run (i - r .start)
-  row-in i h =
-      let a = holds-from r i h in
-      let b = holds-to r i h in
+  slot-in : (i : ℕ) → spans r i ≡ true → octet (laid s (r .start) run) i ≡ octet run (i - r .start)
+  slot-in i h =
+      let a = spans-from r i h in
+      let b = spans-to r i h in
       let e : r .start + (i - r .start) ≡ i = omega arith in
       ap (octet (laid s (r .start) run)) (sym e)
       ∙ laid-in s (r .start) run (omega (arith, wide)) (i - r .start) (omega (arith, wide))
 
-  row-out : (i : ℕ) → holds r i ≡ false → octet (laid s (r .start) run) i ≡ octet s i
-  row-out i h = laid-out s (r .start) run (omega (arith, wide)) i (side (lt-or-le i (r .start)))
+  slot-out : (i : ℕ) → spans r i ≡ false → octet (laid s (r .start) run) i ≡ octet s i
+  slot-out i h = laid-out s (r .start) run (omega (arith, wide)) i (side (lt-or-le i (r .start)))
     where
       side : (i < r .start) ⊎ (r .start ≤ i) → (i < r .start) ⊎ (r .start + length run ≤ i)
       side (inl a) = inl a
       side (inr a) = inr (⊎-elim
-          (λ (b : i < end r). absurd (never-both (in-row r i a b) h))
+          (λ (b : i < end r). absurd (never-both (in-slot r i a b) h))
           (λ (b : end r ≤ i). omega (arith, wide))
           (lt-or-le i (end r)))
 
@@ -180,7 +180,7 @@ unfolding fill octetOf
 fill-none s i = refl
 
 -- What is read at a place afterwards.
-pub fill-octet : (rs : List Row) (s : List ℕ) (i : ℕ) → apart rs ≡ true → endsBy (length s) rs ≡ true
+pub fill-octet : (rs : List Slot) (s : List ℕ) (i : ℕ) → apart rs ≡ true → endsBy (length s) rs ≡ true
     → octet (fill rs s) i ≡ octetOf rs (octet s i) i
 unfolding run
 fill-octet [] s i a b = fill-none s i
@@ -191,18 +191,18 @@ fill-octet (r ∷ rs) s i a b =
     let f = ends-first (length s) r rs b in
     ap (λ (l : List ℕ). octet l i) (fill-cons r rs s) ∙ fill-octet rs t i (apart-rest r rs a) c
     ∙ ⊎-elim
-    (λ (h : holds r i ≡ true).
-    octetOf-none r rs (octet t i) i (apart-first r rs a) h ∙ row-in r s f i h ∙ sym (octetOf-held r rs (octet s i) i h))
-    (λ (h : holds r i ≡ false).
-    ap (λ (z : ℕ). octetOf rs z i) (row-out r s f i h) ∙ sym (octetOf-past r rs (octet s i) i h))
-    (true-or-false (holds r i))
+    (λ (h : spans r i ≡ true).
+    octetOf-none r rs (octet t i) i (apart-first r rs a) h ∙ slot-in r s f i h ∙ sym (octetOf-spanned r rs (octet s i) i h))
+    (λ (h : spans r i ≡ false).
+    ap (λ (z : ℕ). octetOf rs z i) (slot-out r s f i h) ∙ sym (octetOf-past r rs (octet s i) i h))
+    (true-or-false (spans r i))
 
--- ---- rows that hold 0 need not be written where all is 0
+-- ---- slots that hold 0 need not be written where all is 0
 
-pub data Lit : List Row → List Row → Type 0 where
+pub data Lit : List Slot → List Slot → Type 0 where
   done : Lit [] []
-  lit : {r : Row} {rs qs : List Row} → Lit rs qs → Lit (r ∷ rs) (r ∷ qs)
-  unlit : {r : Row} {rs qs : List Row} → r .value ≡ 0 → Lit rs qs → Lit (r ∷ rs) qs
+  lit : {r : Slot} {rs qs : List Slot} → Lit rs qs → Lit (r ∷ rs) (r ∷ qs)
+  unlit : {r : Slot} {rs qs : List Slot} → r .value ≡ 0 → Lit rs qs → Lit (r ∷ rs) qs
 
 octets-zero : (w k : ℕ) → octet (octets w 0) k ≡ 0
 unfolding octets
@@ -219,41 +219,41 @@ octets-zero (suc w) k =
     alone zero = refl
     alone (suc j) = refl
 
-lit-octet : {rs qs : List Row} (i : ℕ) → Lit rs qs → apart rs ≡ true → octetOf rs 0 i ≡ octetOf qs 0 i
+lit-octet : {rs qs : List Slot} (i : ℕ) → Lit rs qs → apart rs ≡ true → octetOf rs 0 i ≡ octetOf qs 0 i
 lit-octet i done a = refl
 lit-octet i (lit {r = r} {rs = rs} {qs = qs} m) a = ⊎-elim
-    (λ (h : holds r i ≡ true). octetOf-held r rs 0 i h ∙ sym (octetOf-held r qs 0 i h))
-    (λ (h : holds r i ≡ false). octetOf-past r rs 0 i h ∙ lit-octet i m (apart-rest r rs a) ∙ sym (octetOf-past r qs 0 i h))
-    (true-or-false (holds r i))
+    (λ (h : spans r i ≡ true). octetOf-spanned r rs 0 i h ∙ sym (octetOf-spanned r qs 0 i h))
+    (λ (h : spans r i ≡ false). octetOf-past r rs 0 i h ∙ lit-octet i m (apart-rest r rs a) ∙ sym (octetOf-past r qs 0 i h))
+    (true-or-false (spans r i))
 lit-octet i (unlit {r = r} {rs = rs} {qs = qs} e m) a =
     let rest = lit-octet i m (apart-rest r rs a) in
     ⊎-elim
-    (λ (h : holds r i ≡ true).
-    octetOf-held r rs 0 i h ∙ rw e (octets-zero (r .size) (i - r .start)) ∙ sym (octetOf-none r rs 0 i (apart-first r rs a) h) ∙ rest)
-    (λ (h : holds r i ≡ false). octetOf-past r rs 0 i h ∙ rest)
-    (true-or-false (holds r i))
+    (λ (h : spans r i ≡ true).
+    octetOf-spanned r rs 0 i h ∙ rw e (octets-zero (r .size) (i - r .start)) ∙ sym (octetOf-none r rs 0 i (apart-first r rs a) h) ∙ rest)
+    (λ (h : spans r i ≡ false). octetOf-past r rs 0 i h ∙ rest)
+    (true-or-false (spans r i))
 
-lit-ends : {rs qs : List Row} (n : ℕ) → Lit rs qs → endsBy n rs ≡ true → endsBy n qs ≡ true
+lit-ends : {rs qs : List Slot} (n : ℕ) → Lit rs qs → endsBy n rs ≡ true → endsBy n qs ≡ true
 lit-ends n done b = b
 lit-ends n (lit {r = r} {rs = rs} {qs = qs} m) b =
     ends-cons n r qs (ends-first n r rs b) (lit-ends n m (ends-rest n r rs b))
 lit-ends n (unlit {r = r} {rs = rs} e m) b = lit-ends n m (ends-rest n r rs b)
 
-lit-apartFrom : {rs qs : List Row} (p : Row) → Lit rs qs → apartFrom p rs ≡ true → apartFrom p qs ≡ true
+lit-apartFrom : {rs qs : List Slot} (p : Slot) → Lit rs qs → apartFrom p rs ≡ true → apartFrom p qs ≡ true
 lit-apartFrom p done a = a
 lit-apartFrom p (lit {r = r} {rs = rs} {qs = qs} m) a =
     apart-cons p r qs (apart-head p r rs a) (lit-apartFrom p m (apart-tail p r rs a))
 lit-apartFrom p (unlit {r = r} {rs = rs} e m) a = lit-apartFrom p m (apart-tail p r rs a)
 
-lit-apart : {rs qs : List Row} → Lit rs qs → apart rs ≡ true → apart qs ≡ true
+lit-apart : {rs qs : List Slot} → Lit rs qs → apart rs ≡ true → apart qs ≡ true
 unfolding apart
 lit-apart done a = a
 lit-apart (lit {r = r} {rs = rs} {qs = qs} m) a =
     both (apartFrom r qs) (apart qs) (lit-apartFrom r m (apart-first r rs a)) (lit-apart m (apart-rest r rs a))
 lit-apart (unlit {r = r} {rs = rs} e m) a = lit-apart m (apart-rest r rs a)
 
--- Where the first n octets are 0, writing the rows that hold something makes them the layout, and all behind stays.
-pub fill-layout : (n : ℕ) (rs qs : List Row) (s : List ℕ) → Lit rs qs → apart rs ≡ true → endsBy n rs ≡ true → n ≤ length s
+-- Where the first n octets are 0, writing the slots that hold something makes them the layout, and all behind stays.
+pub fill-layout : (n : ℕ) (rs qs : List Slot) (s : List ℕ) → Lit rs qs → apart rs ≡ true → endsBy n rs ≡ true → n ≤ length s
     → ((i : ℕ) → i < n → octet s i ≡ 0) → fill qs s ≡ layout n rs ++ drop n s
 fill-layout n rs qs s m a b room clear = ext-getD 0 (fill qs s) (layout n rs ++ drop n s) same-length same-octet
   where
@@ -281,22 +281,22 @@ fill-layout n rs qs s m a b room clear = ext-getD 0 (fill qs s) (layout n rs ++ 
 
 -- ---- reading back
 
-pub data In (r : Row) : List Row → Type 0 where
-  here : {rs : List Row} → In r (r ∷ rs)
-  there : {q : Row} {rs : List Row} → In r rs → In r (q ∷ rs)
+pub data In (r : Slot) : List Slot → Type 0 where
+  here : {rs : List Slot} → In r (r ∷ rs)
+  there : {q : Slot} {rs : List Slot} → In r rs → In r (q ∷ rs)
 
--- The row at a position of a list.
-abbrev pub nth : ℕ → List Row → Row
+-- The slot at a position of a list.
+abbrev pub nth : ℕ → List Slot → Slot
 nth k [] = record { start = 0; size = 0; value = 0 }
 nth zero (r ∷ rs) = r
 nth (suc k) (r ∷ rs) = nth k rs
 
-pub nth-in : (k : ℕ) (rs : List Row) → k < length rs → In (nth k rs) rs
+pub nth-in : (k : ℕ) (rs : List Slot) → k < length rs → In (nth k rs) rs
 nth-in k [] h = absurd (omega arith)
 nth-in zero (r ∷ rs) h = here
 nth-in (suc k) (r ∷ rs) h = there (nth-in k rs (omega arith))
 
-in-apart : {r : Row} {rs : List Row} (q : Row) → In r rs → apartFrom q rs ≡ true → leb (end q) (r .start) || leb (end r) (q .start) ≡ true
+in-apart : {r : Slot} {rs : List Slot} (q : Slot) → In r rs → apartFrom q rs ≡ true → leb (end q) (r .start) || leb (end r) (q .start) ≡ true
 in-apart {r = r} q (here {rs = rs}) a = apart-head q r rs a
 in-apart q (there {q = p} {rs = rs} m) a = in-apart q m (apart-tail q p rs a)
 
@@ -306,21 +306,21 @@ or-swap true false e = refl
 or-swap false true e = refl
 or-swap false false e = e
 
-octetOf-in : {r : Row} {rs : List Row} (i : ℕ) → In r rs → apart rs ≡ true → holds r i ≡ true
+octetOf-in : {r : Slot} {rs : List Slot} (i : ℕ) → In r rs → apart rs ≡ true → spans r i ≡ true
     → octetOf rs 0 i ≡ octet (octets (r .size) (r .value)) (i - r .start)
-octetOf-in {r = r} i (here {rs = rs}) a h = octetOf-held r rs 0 i h
+octetOf-in {r = r} i (here {rs = rs}) a h = octetOf-spanned r rs 0 i h
 octetOf-in {r = r} i (there {q = q} {rs = rs} m) a h =
     let x = or-swap (leb (end q) (r .start)) (leb (end r) (q .start)) (in-apart q m (apart-first q rs a)) in
     octetOf-past q rs 0 i (apart-one r q i x h) ∙ octetOf-in i m (apart-rest q rs a) h
 
-in-ends : {r : Row} {rs : List Row} (n : ℕ) → In r rs → endsBy n rs ≡ true → end r ≤ n
+in-ends : {r : Slot} {rs : List Slot} (n : ℕ) → In r rs → endsBy n rs ≡ true → end r ≤ n
 in-ends {r = r} n (here {rs = rs}) b = ends-first n r rs b
 in-ends n (there {q = q} {rs = rs} m) b = in-ends n m (ends-rest n q rs b)
 
--- Each row of a layout reads back, whatever stands behind it.
-pub layout-row : (n : ℕ) (r : Row) (rs : List Row) (t : List ℕ) → In r rs → apart rs ≡ true → endsBy n rs ≡ true → r .value < 256 ^ r .size
+-- Each slot of a layout reads back, whatever stands behind it.
+pub layout-slot : (n : ℕ) (r : Slot) (rs : List Slot) (t : List ℕ) → In r rs → apart rs ≡ true → endsBy n rs ≡ true → r .value < 256 ^ r .size
     → number (r .size) (layout n rs ++ t) (r .start) ≡ r .value
-layout-row n r rs t m a b h =
+layout-slot n r rs t m a b h =
     number-ext (r .size) (layout n rs ++ t) (octets (r .size) (r .value)) (r .start) 0 same
     ∙ number-octets-fits (r .size) (r .value) h
   where
@@ -330,5 +330,5 @@ layout-row n r rs t m a b h =
         let f : r .start + k - r .start ≡ 0 + k = omega arith in
         List·getD-append (layout n rs) t 0 (r .start + k) (omega (arith, length-layout n rs))
         ∙ octet-layout n rs (r .start + k) (omega arith)
-        ∙ octetOf-in (r .start + k) m a (in-row r (r .start + k) (omega arith) (omega arith))
+        ∙ octetOf-in (r .start + k) m a (in-slot r (r .start + k) (omega arith) (omega arith))
         ∙ ap (octet (octets (r .size) (r .value))) f

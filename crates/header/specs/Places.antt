@@ -4,7 +4,7 @@ use mathlib.Core.Path.{_≡_, refl}
 use mathlib.Core.Bool.{true}
 use mathlib.Core.List.{List, [], _∷_}
 use Prim.Native.Nat.{ℕ}
-use Rattle.header.specs.Layout.{Row, rowsOf, apartFrom, apart, endsBy, held, covers}
+use Rattle.header.specs.Layout.{Slot, slotsOf, apartFrom, apart, endsBy, spanned, covers}
 
 -- The fields of Table 7, SA in its three parts: domain, data field, node.
 pub data Field : Type 0 where
@@ -38,17 +38,17 @@ abbrev pub headerSize : ℕ
 headerSize = 64
 
 -- The whole table, with a number for each field.
-abbrev pub rows : (Field → ℕ) → List Row
-rows v = rowsOf place v (hType ∷ ml ∷ domain ∷ dataField ∷ node ∷ da ∷ vSeq ∷ seq ∷ mCtl ∷ inqId ∷ tcd ∷ ver ∷ gtid ∷ mode ∷ pver ∷ pri ∷ cbn ∷ tbn ∷ bsize ∷ fui ∷ [])
+abbrev pub slots : (Field → ℕ) → List Slot
+slots v = slotsOf place v (hType ∷ ml ∷ domain ∷ dataField ∷ node ∷ da ∷ vSeq ∷ seq ∷ mCtl ∷ inqId ∷ tcd ∷ ver ∷ gtid ∷ mode ∷ pver ∷ pri ∷ cbn ∷ tbn ∷ bsize ∷ fui ∷ [])
 
-pub places-apart : (v : Field → ℕ) → apart (rows v) ≡ true
+pub places-apart : (v : Field → ℕ) → apart (slots v) ≡ true
 unfolding apart apartFrom
 places-apart v = refl
 
-pub places-end : (v : Field → ℕ) → endsBy headerSize (rows v) ≡ true
+pub places-end : (v : Field → ℕ) → endsBy headerSize (slots v) ≡ true
 unfolding endsBy
 places-end v = refl
 
-pub places-cover : (v : Field → ℕ) → covers headerSize (rows v) ≡ true
-unfolding covers held
+pub places-cover : (v : Field → ℕ) → covers headerSize (slots v) ≡ true
+unfolding covers spanned
 places-cover v = refl

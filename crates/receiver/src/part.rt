@@ -18,11 +18,7 @@ fn stored_part(storage: &[u8], start: usize, size: usize) -> &[u8]
     ensures { λ r. ⌜ now r ≡ storedPart (now (storage .entry)) start size ⌝ }
 {
     let part = run(storage, start, size);
-    if part.len() < size {
-        &part[..0]
-    } else {
-        part
-    }
+    if part.len() < size { &part[..0] } else { part }
 }
 
 pub fn part<'a>(place: Where, packet: &'a [u8], storage: &'a [u8]) -> &'a [u8]

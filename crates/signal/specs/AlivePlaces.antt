@@ -5,8 +5,8 @@ use mathlib.Core.Path.{_≡_, refl}
 use mathlib.Core.Bool.{true}
 use mathlib.Core.List.{List, [], _∷_, _++_}
 use Prim.Native.Nat.{ℕ}
-use Rattle.header.specs.Layout.{Row, rowsOf, apartFrom, apart, endsBy, held, covers}
-use Rattle.header.specs.Places.{Field, rows}
+use Rattle.header.specs.Layout.{Slot, slotsOf, apartFrom, apart, endsBy, spanned, covers}
+use Rattle.header.specs.Places.{Field, slots}
 
 -- The fields of Table 8, al_ipaddr in its two parts.
 pub data AliveField : Type 0 where
@@ -33,21 +33,21 @@ abbrev pub aliveSize : ℕ
 aliveSize = 128
 
 -- The alive header's part of the table, with a number for each field,
-abbrev pub bodyRows : (AliveField → ℕ) → List Row
-bodyRows v = rowsOf alivePlace v (ndName ∷ osName ∷ alTmOut ∷ msgSerno ∷ alMode ∷ alProtocol ∷ alFu1 ∷ chgTime ∷ ipaddr0 ∷ ipaddr1 ∷ alVer ∷ alFu2 ∷ reserved ∷ [])
+abbrev pub bodySlots : (AliveField → ℕ) → List Slot
+bodySlots v = slotsOf alivePlace v (ndName ∷ osName ∷ alTmOut ∷ msgSerno ∷ alMode ∷ alProtocol ∷ alFu1 ∷ chgTime ∷ ipaddr0 ∷ ipaddr1 ∷ alVer ∷ alFu2 ∷ reserved ∷ [])
 
 -- and behind the ADP header's.
-abbrev pub headBodyRows : (Field → ℕ) → (AliveField → ℕ) → List Row
-headBodyRows v u = rows v ++ bodyRows u
+abbrev pub headBodySlots : (Field → ℕ) → (AliveField → ℕ) → List Slot
+headBodySlots v u = slots v ++ bodySlots u
 
-pub alive-apart : (v : Field → ℕ) (u : AliveField → ℕ) → apart (headBodyRows v u) ≡ true
+pub alive-apart : (v : Field → ℕ) (u : AliveField → ℕ) → apart (headBodySlots v u) ≡ true
 unfolding apart apartFrom
 alive-apart v u = refl
 
-pub alive-end : (v : Field → ℕ) (u : AliveField → ℕ) → endsBy aliveSize (headBodyRows v u) ≡ true
+pub alive-end : (v : Field → ℕ) (u : AliveField → ℕ) → endsBy aliveSize (headBodySlots v u) ≡ true
 unfolding endsBy
 alive-end v u = refl
 
-pub alive-cover : (v : Field → ℕ) (u : AliveField → ℕ) → covers aliveSize (headBodyRows v u) ≡ true
-unfolding covers held
+pub alive-cover : (v : Field → ℕ) (u : AliveField → ℕ) → covers aliveSize (headBodySlots v u) ≡ true
+unfolding covers spanned
 alive-cover v u = refl
