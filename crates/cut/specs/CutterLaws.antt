@@ -21,7 +21,7 @@ use Rattle.header.specs.Places.{headerSize}
 use Rattle.cut.specs.declared.cutter.Cutting.the-variants.{Written, Refused}
 use Rattle.cut.specs.Pieces.{mostOctets, leastUnit, mostUnit, pieces, piecePlace, pieceLength, piece}
 use Rattle.cut.specs.PiecesLaws.{pieces-one, pieces-two, pieces-cover, pieces-below, pieces-most, length-front, length-last, length-only, place-within, piece-end, length-most}
-use Rattle.cut.specs.Possible.{messageLength, ownLength, unit, place, isUnit, sizesWithin, frontPossible, lastPossible, possible}
+use Rattle.cut.specs.Possible.{messageLength, ownLength, unit, ownPlace, isUnit, sizesWithin, frontPossible, lastPossible, possible}
 use Rattle.cut.specs.Cutter.{cutFor, headFor, pdu, givenWithin, pieceWithin, limitsWithin, cuts, cutterAnswer, cutterBuffer}
 
 -- ---- n, u and the piece number within their limits
@@ -225,7 +225,7 @@ module _ (n u c : ℕ) (w : Within n u c) where
 
   -- The joiner finds n, TBN, the piece's length and its place, the last piece's too.
   pub cut-same : (messageLength (cutFor n u c) ≡ n) × (cutFor n u c .tbn ≡ pieces n u) × (ownLength (cutFor n u c) ≡ pieceLength n u c)
-      × (place (cutFor n u c) ≡ piecePlace u c)
+      × (ownPlace (cutFor n u c) ≡ piecePlace u c)
   unfolding cut p t
   cut-same = (
     n-is,

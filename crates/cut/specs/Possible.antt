@@ -22,8 +22,8 @@ unit c =
     (cond (ltb (c .cbn) (c .tbn)) (ownLength c) ((messageLength c - ownLength c) / (c .tbn - 1)))
 
 -- "Its place in the message is (CBN − 1) × u."
-abbrev pub place : Cut → ℕ
-place c = piecePlace (unit c) (c .cbn)
+abbrev pub ownPlace : Cut → ℕ
+ownPlace c = piecePlace (unit c) (c .cbn)
 
 -- "256 ≤ u ≤ 1,396"
 abbrev pub isUnit : ℕ → Bool

@@ -12,7 +12,7 @@ use Rattle.header.specs.declared.Cut.{Cut}
 use Rattle.header.specs.Places.{headerSize}
 use Rattle.cut.specs.Pieces.{mostOctets, leastUnit, mostUnit, pieces, piecePlace, pieceLength}
 use Rattle.cut.specs.PiecesLaws.{times, pieces-one, pieces-two, pieces-cover, pieces-below, pieces-only, pieces-most, length-front, length-last, length-only, piece-end}
-use Rattle.cut.specs.Possible.{messageLength, ownLength, unit, place, isUnit, frontPossible, lastPossible, severalPossible, possible}
+use Rattle.cut.specs.Possible.{messageLength, ownLength, unit, ownPlace, isUnit, frontPossible, lastPossible, severalPossible, possible}
 
 -- ---- what a possible cut says
 
@@ -173,13 +173,13 @@ possible-most c e =
     (eq-or-ne (c .tbn) 1)
 
 -- A piece lies within its message.
-pub possible-within : (c : Cut) → possible c ≡ true → place c + ownLength c ≤ messageLength c
+pub possible-within : (c : Cut) → possible c ≡ true → ownPlace c + ownLength c ≤ messageLength c
 possible-within c e =
     let f = possible-facts c e in
     ⊎-elim
     (λ (h : c .tbn ≡ 1).
     let z : c .cbn - 1 ≡ 0 = omega arith in
-    let k : place c ≡ 0 = rw (z, zero-mul (unit c)) refl in
+    let k : ownPlace c ≡ 0 = rw (z, zero-mul (unit c)) refl in
     omega (arith, f .cut .own, length-only (messageLength c) (unit c) (c .cbn) (f .one) (omega arith) (f .cut .count ∙ h)))
     (λ (h : c .tbn ≢ 1).
     let w = f .wide h .0 in

@@ -1,7 +1,7 @@
 // Whether a PDU's cut is possible, and what it says of the piece: by ML, BSIZE, CBN and TBN alone.
 ghost use mathlib.Core.Path.{_≡_};
 ghost use Prim.Native.Nat.{_-_, _/_, _≤_};
-ghost use Rattle.cut.specs.Possible.{messageLength, ownLength, unit as unitOf, place as placeOf, sizesWithin, isUnit, severalPossible, frontPossible, lastPossible, possible as isPossible};
+ghost use Rattle.cut.specs.Possible.{messageLength, ownLength, unit as unitOf, ownPlace, sizesWithin, isUnit, severalPossible, frontPossible, lastPossible, possible as isPossible};
 use crate::pieces::LEAST_UNIT;
 use crate::pieces::MOST_OCTETS;
 use crate::pieces::MOST_UNIT;
@@ -57,8 +57,8 @@ fn last_unit(c: Cut) -> u32
 }
 
 // Where the piece starts in the message.
-pub fn place(c: Cut) -> u64
-    ensures { λ r. ⌜ r ≡ placeOf c ⌝ }
+pub fn own_place(c: Cut) -> u64
+    ensures { λ r. ⌜ r ≡ ownPlace c ⌝ }
 {
     if c.cbn == 0 {
         return 0;

@@ -12,7 +12,7 @@ use answers::Dropped;
 use answers::Outcome;
 use answers::Where;
 use cut::possible::message_length;
-use cut::possible::place;
+use cut::possible::own_place;
 use header::Head;
 use header::SIZE;
 use header::codes::code_of;
@@ -134,7 +134,7 @@ fn store(storage: &mut [u8], at: u8, h: Head, packet: &[u8])
 {
     let cut = h.cut;
     if cut.tbn != 1 {
-        let start = (at as usize) * Receiver::AREA + place(cut) as usize;
+        let start = (at as usize) * Receiver::AREA + own_place(cut) as usize;
         lay(storage, start, &packet[SIZE..]);
     }
 }

@@ -16,7 +16,7 @@ use Rattle.octets.specs.Split.{lt-or-le, eq-or-ne, cond-case}
 use Rattle.header.specs.declared.Head.{Head}
 use Rattle.header.specs.Head.{headOf}
 use Rattle.header.specs.Places.{headerSize}
-use Rattle.cut.specs.Possible.{place, ownLength}
+use Rattle.cut.specs.Possible.{ownPlace, ownLength}
 use Rattle.cut.specs.PossibleLaws.{possible-facts, possible-within}
 use Rattle.state.specs.declared.Sender.{Sender}
 use Rattle.state.specs.declared.Receiver.{Receiver}
@@ -45,7 +45,7 @@ module _ (w : Receiver) (storage packet : List ℕ) (none : messageNumber w (len
   i = found w h
 
   abbrev start : ℕ
-  start = i * area + place (h .cut)
+  start = i * area + ownPlace (h .cut)
 
   after-is : messageStorage w storage packet ≡ storageAfter storage i h packet
   unfolding messageStorage

@@ -11,7 +11,7 @@ use Rattle.header.specs.Codes.{isUser}
 use Rattle.header.specs.Head.{headOf, lengthOutside, commonWithin}
 use Rattle.header.specs.Places.{headerSize}
 use Rattle.cut.specs.Pieces.{mostOctets}
-use Rattle.cut.specs.Possible.{place, messageLength, ownLength}
+use Rattle.cut.specs.Possible.{ownPlace, messageLength, ownLength}
 use Rattle.state.specs.declared.Sender.{Sender}
 use Rattle.state.specs.declared.Receiver.{Receiver}
 use Rattle.answers.specs.declared.Admission.{Admission}
@@ -68,7 +68,7 @@ messageNumber w room packet = first (messageRows w room packet)
 -- "A piece of several changes exactly its p octets in its sender's area." "A message of one piece is delivered at once and storage is untouched."
 unfoldable pub storageAfter : List ℕ → ℕ → Head → List ℕ → List ℕ
 storageAfter storage i h packet =
-    cond (eqb (h .cut .tbn) 1) storage (laid storage (i * area + place (h .cut)) (run headerSize (ownLength (h .cut)) packet))
+    cond (eqb (h .cut .tbn) 1) storage (laid storage (i * area + ownPlace (h .cut)) (run headerSize (ownLength (h .cut)) packet))
 
 -- "The message is handed over as a part of the packet or of the storage"
 abbrev pub liesAt : ℕ → Head → Where

@@ -18,7 +18,7 @@ use Rattle.signal.specs.declared.Body.{Body}
 use Rattle.signal.specs.Alive.{bodyOf}
 use Rattle.header.specs.Head.{headOf}
 use Rattle.header.specs.Places.{headerSize}
-use Rattle.cut.specs.Possible.{possible, place, ownLength}
+use Rattle.cut.specs.Possible.{possible, ownPlace, ownLength}
 use Rattle.cut.specs.PossibleLaws.{possible-facts, possible-within}
 use Rattle.state.specs.declared.Address.{Address}
 use Rattle.state.specs.declared.Receiver.{Receiver}
@@ -163,10 +163,10 @@ module _ (w : World) (sound : Sound w) (i : ℕ) (here : i < w .state .count) wh
       let f = possible-facts (h .cut) p in
       let q = run headerSize (ownLength (h .cut)) packet in
       let len : length q ≡ ownLength (h .cut) = length-run headerSize (ownLength (h .cut)) packet (omega (arith, f .own-room)) in
-      let z : 0 * area + place (h .cut) ≡ place (h .cut) = omega arith in
+      let z : 0 * area + ownPlace (h .cut) ≡ ownPlace (h .cut) = omega arith in
       ⊎-elim
       (λ (e : eqb (h .cut .tbn) 1 ≡ true). rw e)
-      (λ (e : eqb (h .cut .tbn) 1 ≡ false). rw (e, z) (run-laid-within (w .storage) (i * area) area (place (h .cut)) q there (omega (arith, possible-within (h .cut) p, f .big))))
+      (λ (e : eqb (h .cut .tbn) 1 ≡ false). rw (e, z) (run-laid-within (w .storage) (i * area) area (ownPlace (h .cut)) q there (omega (arith, possible-within (h .cut) p, f .big))))
       (true-or-false (eqb (h .cut .tbn) 1))
 
   -- ---- a packet of its own
@@ -232,7 +232,7 @@ module _ (w : World) (sound : Sound w) (i : ℕ) (here : i < w .state .count) wh
         let f = taken-facts (w .state) (length (w .storage)) packet none in
         let p = f .1 .cut-possible in
         let q = run headerSize (ownLength (h .cut)) packet in
-        let start = k * area + place (h .cut) in
+        let start = k * area + ownPlace (h .cut) in
         let len : length q ≡ ownLength (h .cut) = length-run headerSize (ownLength (h .cut)) packet (omega (arith, f .0 .size, possible-facts (h .cut) p .own-room)) in
         let within : start + length q ≤ k * area + area = omega (arith, possible-within (h .cut) p, possible-facts (h .cut) p .big) in
         let fits : start + length q ≤ length (w .storage)

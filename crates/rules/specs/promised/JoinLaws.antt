@@ -19,7 +19,7 @@ use Rattle.header.specs.Head.{headOf}
 use Rattle.header.specs.Places.{headerSize}
 use Rattle.cut.specs.Pieces.{pieces, piecePlace, pieceLength, piece, joined}
 use Rattle.cut.specs.PiecesLaws.{piece-end, length-most, length-only, pieces-join, times}
-use Rattle.cut.specs.Possible.{possible, messageLength, ownLength, unit, place}
+use Rattle.cut.specs.Possible.{possible, messageLength, ownLength, unit, ownPlace}
 use Rattle.cut.specs.PossibleLaws.{Possible, possible-facts, Several, possible-several}
 use Rattle.map.specs.Map.{bit, holds, pieceBit, fullMap}
 use Rattle.map.specs.MapLaws.{bit-set, bit-keep, bit-zero, set-below, full-bit, holds-not}
@@ -263,7 +263,7 @@ module _ (packets : List (List ℕ)) (g : Settings) (v : View) (p : List ℕ) (i
   octets-several : head .cut .tbn ≢ 1 → octets-after ≡ laid (v .octets) (piecePlace (kinOf p .u) (numberIn p)) (behind p)
   unfolding octets-after storageAfter
   octets-several ne =
-      let z : 0 * area + place (head .cut) ≡ place (head .cut) = omega arith in
+      let z : 0 * area + ownPlace (head .cut) ≡ ownPlace (head .cut) = omega arith in
       rw (ne-eqb (head .cut .tbn) 1 ne, z)
 
   put-good : admitted (g .n1) (v .now) s head .sender .«open» ≡ true → Fine (p ∷ so-far) (admitted (g .n1) (v .now) s head .sender .message) octets-after
@@ -312,7 +312,7 @@ part-several : (v : View) (p : List ℕ) → headOf p .cut .tbn ≢ 1
     → partView v p ≡ run 0 (messageLength (headOf p .cut)) (laid (v .octets) (piecePlace (unit (headOf p .cut)) (numberIn p)) (behind p))
 unfolding partView storageAfter
 part-several v p ne =
-    let z : 0 * area + place (headOf p .cut) ≡ place (headOf p .cut) = omega arith in
+    let z : 0 * area + ownPlace (headOf p .cut) ≡ ownPlace (headOf p .cut) = omega arith in
     rw (ne-eqb (headOf p .cut .tbn) 1 ne, z)
 
 module _ (packets : List (List ℕ)) (g : Settings) (v : View) (p : List ℕ) (inv : Inv packets v) (a : Admitted (g .n1) (v .sender) (headOf p))

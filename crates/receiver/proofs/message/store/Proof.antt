@@ -12,14 +12,14 @@ use Rattle.receiver.proofs.message.store.Tie as tie
 mul-start : tie.Need-mul-start
 mul-start c = search needs
 
-place-requires : tie.Need-place-requires
-place-requires c κs = search needs
+own-place-requires : tie.Need-own-place-requires
+own-place-requires c κs = search needs
 
 add-start : tie.Need-add-start
 add-start c =
     let entry = c .before .before .before .before .before .before in
     let f = possible-facts _ (entry .pre .1) in
-    omega (arith, c .place .ensures, possible-within _ (entry .pre .1))
+    omega (arith, c .own-place .ensures, possible-within _ (entry .pre .1))
 
 sub-lay : tie.Need-sub-lay
 sub-lay c =
@@ -49,7 +49,7 @@ returns c =
     let found = laid .before .before .before in
     let several = found .before in
     let entry = several .before .before .before .before .before in
-    laid .lay .ensures ∙ rw (ne-eqb _ _ (several .if1 .taken), found .place .ensures, entry .pre .2)
+    laid .lay .ensures ∙ rw (ne-eqb _ _ (several .if1 .taken), found .own-place .ensures, entry .pre .2)
 
 returns-2 : tie.Need-returns-2
 unfolding storageAfter
@@ -60,7 +60,7 @@ store-spec =
     tie.close
     (tie.spec
     mul-start
-    place-requires
+    own-place-requires
     add-start
     sub-lay
     part-lay-start

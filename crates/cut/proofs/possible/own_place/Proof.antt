@@ -6,8 +6,8 @@ use Rattle.cut.specs.PiecesLaws.{product-below}
 use native.Mathlib.Omega.{arith}
 use Rattle.cut.specs.Possible.{unit}
 use borrow.Author.Needs.{needs}
-use Rattle.cut.proofs.possible.place.Statement.{statement}
-use Rattle.cut.proofs.possible.place.Tie as tie
+use Rattle.cut.proofs.possible.own_place.Statement.{statement}
+use Rattle.cut.proofs.possible.own_place.Tie as tie
 
 returns : tie.Need-returns
 returns c =
@@ -33,7 +33,7 @@ mul-result c = record { fits = product-below _ _ 255 4294967295 (omega arith) (o
 returns-2 : tie.Need-returns-2
 returns-2 c = rw (c .unit .ensures)
 
-pub place-spec : {M : Type 1} → statement M
-place-spec =
+pub own-place-spec : {M : Type 1} → statement M
+own-place-spec =
     tie.close
     (tie.spec returns sub-result cast-result unit-requires cast-result-2 mul-result returns-2)
