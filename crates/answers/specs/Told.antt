@@ -22,7 +22,7 @@ use Rattle.answers.specs.declared.Where.the-variants as place
 abbrev pub leastRefusal : ℕ
 leastRefusal = 9
 
--- The number that was told is k, and a refusal's.
+-- The number that was told is k, and a refusal's: no other case is told so (ToldLaws).
 abbrev pub RefusedAs : (told k : ℕ) → Type 0
 RefusedAs told k = (told ≡ k) × (leastRefusal ≤ k)
 
@@ -67,10 +67,13 @@ pub record PlaceTold : Type 0 where
   pub start : ℕ
   pub length : ℕ
 
--- "a one-piece message comes back as the part of the lent packet behind its header", so neither start nor length is told of it;
--- "any other answer gives an empty part".
+-- "any other answer gives an empty part"
+abbrev pub nothingHanded : PlaceTold
+nothingHanded = record { slice = 0; start = 0; length = 0 }
+
+-- "a one-piece message comes back as the part of the lent packet behind its header": where it starts and ends is not told.
 abbrev pub placeTold : Where → PlaceTold
-placeTold place.Nothing = record { slice = 0; start = 0; length = 0 }
+placeTold place.Nothing = nothingHanded
 placeTold place.Packet = record { slice = 1; start = 0; length = 0 }
 placeTold (place.Storage start length) = record { slice = 2; start = start; length = length }
 
@@ -101,7 +104,7 @@ messageRefused k = record {
   held = 0;
   droppedVersion = 0;
   droppedNumber = 0;
-  place = placeTold place.Nothing;
+  place = nothingHanded;
 }
 
 -- ---- setup and the alive call: "S answer", "A answer"

@@ -37,20 +37,21 @@ use Rattle.promises.specs.Course.{Meets, Course, SetupMeets, CutterMeets
 
 -- ---- demand 1
 
--- The number that was answered, and that nothing more was than a refusal with k.
+-- The number that was answered,
 abbrev pub numberIn : (e : Event) → Said e → ℕ
 numberIn (message packet) r = messageTold (r .0) .outcome .number
 numberIn (alive packet) r = callNumber (r .call)
 numberIn (clock now) r = clockTold r .number
 numberIn (aside question) r = questionTold r .number
 
+-- and that nothing more was than number k: "any other answer gives an empty part", "(both 0 on a refusal)".
 abbrev pub NothingMore : (e : Event) → Said e → ℕ → Type 0
 NothingMore (message packet) r k = (messageTold (r .0) ≡ messageRefused k) × (r .1 ≡ [])
 NothingMore (alive packet) r k = callNumber (r .call) ≡ k
 NothingMore (clock now) r k = clockTold r ≡ clockRefused k
 NothingMore (aside question) r k = questionTold r ≡ noneOpen k
 
--- Number k was answered, which is a refusal's.
+-- Number k was answered, and is a refusal's.
 abbrev pub RefusedWith : (e : Event) → Said e → ℕ → Type 0
 RefusedWith e r = RefusedAs (numberIn e r)
 
@@ -83,8 +84,8 @@ abbrev pub CutterRefuses : Type 0
 CutterRefuses = (g : Given) (m : List ℕ) (u c : ℕ) (buffer : List ℕ) (r : Cutting) (left : List ℕ) → CutterMeets g m u c buffer r left
     → Refuses (row 23 (not (cuts g m u c (length buffer))) ∷ []) (cutterTold r .number) (λ k. (cutterTold r .length ≡ 0) × (left ≡ buffer))
 
--- A number is told by one case of an answer alone: a refusal has one of 9 or more, and a delivery a verdict. So what is said of numbers and
--- values is said of the answers (`one-answer`, `one-call` and `one-missing` of `answers`).
+-- A number is told by one case of an answer alone: a refusal has one of 9 or more, and a delivery a verdict of 1 to 5. So what is said here of
+-- numbers and values is said of the answers (`one-answer`, `one-call` and `one-missing` of `answers`).
 abbrev pub Tells : (e : Event) → Said e → Type 0
 Tells (message packet) r = OutcomeTells (r .0 .outcome)
 Tells (alive packet) r = CallTells (r .call)

@@ -34,7 +34,7 @@ use Rattle.rules.specs.calls.First.{Row, first, Given}
 use Rattle.rules.specs.calls.FirstLaws.{numbered, given-first, first-given, above, rises, first-neither, given-above}
 use Rattle.state.specs.Table.{found}
 use Rattle.rules.specs.calls.Message.{packetRows, messageRows, taken, refused, messageAnswer, messageStorage}
-use Rattle.rules.specs.calls.Question.{questionRows, firstOpen, missingOf, questionAnswer}
+use Rattle.rules.specs.calls.Question.{questionRows, firstOpen, questionAnswer}
 use Rattle.rules.specs.calls.Setup.{setupWithin, setupState, setupAnswer}
 use Rattle.state.specs.Limits.{valid}
 use Rattle.state.specs.State.{senderAt, emptyReceiver}

@@ -75,13 +75,6 @@ first-given (r ∷ rs) k e ne = ⊎-elim
     (λ (n : r .applies ≡ false). inr (n, first-given rs k (rw n at e) ne))
     (true-or-false (r .applies))
 
--- Rows with a number of their own give one.
-pub given-some : (rs : List Row) (k : ℕ) → numbered rs ≡ true → Given rs k → k ≢ 0
-unfolding Given numbered
-given-some [] k n g e = g
-given-some (r ∷ rs) k n (inl g) e = omega (arith, g .1, ltb-true 0 (r .number) (and-left (ltb 0 (r .number)) (numbered rs) n))
-given-some (r ∷ rs) k n (inr g) e = given-some rs k (and-right (ltb 0 (r .number)) (numbered rs) n) (g .1) e
-
 -- ---- "The lowest number that applies is given."
 
 -- Every number of the list is above k.
