@@ -48,6 +48,10 @@ outcomeTold (outcome.Refused k) = notDelivered k
 outcomeTold outcome.Stored = notDelivered 0
 outcomeTold (outcome.Delivered v) = deliveredAs v
 
+-- What is delivered has a verdict of 1 to 5.
+abbrev pub HasVerdict : OutcomeTold → Type 0
+HasVerdict t = t .number ≡ 1 → 1 ≤ t .verdict
+
 -- The number of a refusal, 0 where there is none.
 abbrev pub refusedNumber : Outcome → ℕ
 refusedNumber (outcome.Refused k) = k
@@ -147,12 +151,11 @@ questionTold (missing.Piece i c) = record { number = 0; «open» = true; sender 
 
 -- ---- what the numbers tell
 
--- A refusal has a refusal's number, and a delivery a verdict of 1 to 5: the verdict is "0 where nothing is delivered", and there alone. No two
--- such answers are told alike (ToldLaws).
+-- A refusal has a refusal's number. No two such answers are told alike (ToldLaws).
 abbrev pub OutcomeTells : Outcome → Type 0
 OutcomeTells (outcome.Refused k) = leastRefusal ≤ k
 OutcomeTells outcome.Stored = Unit {0}
-OutcomeTells (outcome.Delivered v) = 1 ≤ verdictNumber v
+OutcomeTells (outcome.Delivered v) = Unit {0}
 
 abbrev pub CallTells : Call → Type 0
 CallTells call.Done = Unit {0}

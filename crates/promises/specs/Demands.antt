@@ -20,7 +20,7 @@ use Rattle.state.specs.State.{noLast, senderAt, emptyReceiver}
 use Rattle.state.specs.Table.{source}
 use Rattle.answers.specs.declared.Setup.{Setup}
 use Rattle.answers.specs.declared.Started.{Started}
-use Rattle.answers.specs.Told.{RefusedAs, deliveredAs, messageTold, messageRefused, callNumber, clockTold, clockRefused, questionTold, noneOpen, OutcomeTells, CallTells, MissingTells}
+use Rattle.answers.specs.Told.{RefusedAs, deliveredAs, HasVerdict, messageTold, messageRefused, callNumber, clockTold, clockRefused, questionTold, noneOpen, OutcomeTells, CallTells, MissingTells}
 use Rattle.rules.specs.promised.Accepted.{acceptedWith, acceptedIn}
 use Rattle.rules.specs.calls.Alive.{aliveRows}
 use Rattle.rules.specs.promised.AlivePast.{AliveBy}
@@ -84,8 +84,8 @@ abbrev pub CutterRefuses : Type 0
 CutterRefuses = (g : Given) (m : List ℕ) (u c : ℕ) (buffer : List ℕ) (r : Cutting) (left : List ℕ) → CutterMeets g m u c buffer r left
     → Refuses (row 23 (not (cuts g m u c (length buffer))) ∷ []) (cutterTold r .number) (λ k. (cutterTold r .length ≡ 0) × (left ≡ buffer))
 
--- A number is told by one case of an answer alone: a refusal has one of 9 or more, and a delivery a verdict of 1 to 5. So what is said here of
--- numbers and values is said of the answers (`one-answer`, `one-call` and `one-missing` of `answers`).
+-- A number is told by one case of an answer alone, since a refusal has one of 9 or more: what is said here of numbers and values is said of the
+-- answers (`one-answer`, `one-call` and `one-missing` of `answers`).
 abbrev pub Tells : (e : Event) → Said e → Type 0
 Tells (message packet) r = OutcomeTells (r .0 .outcome)
 Tells (alive packet) r = CallTells (r .call)
@@ -95,6 +95,11 @@ Tells (aside question) r = MissingTells r
 abbrev pub NumbersTell : Type 0
 NumbersTell = ((w : World) (e : Event) (r : Said e) (v : World) → Meets w e r v → Tells e r)
     × ((q : Setup) (r : Started) (w : World) → SetupMeets q r w → CallTells (r .call))
+
+-- "Verdicts: 1 first, …, 0 where nothing is delivered", and 0 there alone.
+abbrev pub VerdictTold : Type 0
+VerdictTold = (w : World) (packet : List ℕ) (r : Said (message packet)) (v : World) → Meets w (message packet) r v
+    → HasVerdict (messageTold (r .0) .outcome)
 
 -- What is said of the calls after any past.
 abbrev pub AfterPast : ((w : World) (es : List Event) → Answers es → World → Type 0) → Type 0
@@ -184,6 +189,7 @@ pub record Demands : Type 0 where
   pub setup-refuses : SetupRefuses
   pub cutter-refuses : CutterRefuses
   pub numbers-tell : NumbersTell
+  pub verdict-told : VerdictTold
   pub never-nine : NeverNine
   pub comes-back : ComesBack
   pub alive-is : WhoIsAlive

@@ -7,8 +7,12 @@ use mathlib.Core.List.{List, [], _∷_}
 use native.Mathlib.Omega.{arith}
 use lib.Dec.{eqb}
 use lib.ListN.{length}
-use borrow.Author.Tests.{eq-eqb, not-true}
-use Rattle.octets.specs.Split.{never-both}
+use borrow.Author.Tests.{eq-eqb, eqb-true, not-true}
+use Rattle.octets.specs.Split.{never-both, cond-case}
+use Rattle.ring.specs.declared.Verdict.{Verdict}
+use Rattle.ring.specs.declared.Verdict.the-variants.{Unchecked, First, Restart, Repeat, Next, Gap}
+use Rattle.ring.specs.Check.{verdictNumber, isRepeat}
+use Rattle.header.specs.declared.Head.{Head}
 use Rattle.header.specs.Head.{headOf}
 use Rattle.cut.specs.declared.cutter.Cutting.{Cutting}
 use Rattle.cut.specs.declared.cutter.Cutting.the-variants as cutting
@@ -16,9 +20,11 @@ use Rattle.header.specs.Places.{headerSize}
 use Rattle.cut.specs.Cutter.{cuts, cutterAnswer, cutterBuffer, cutterTold}
 use Rattle.cut.specs.Pieces.{pieceLength}
 use Rattle.state.specs.declared.Address.{Address}
+use Rattle.state.specs.declared.Receiver.{Receiver}
+use Rattle.state.specs.declared.Sender.{Sender}
 use Rattle.state.specs.Limits.{addressAt, valid}
 use Rattle.state.specs.State.{senderAt, emptyReceiver}
-use Rattle.state.specs.Table.{source}
+use Rattle.state.specs.Table.{source, found}
 use Rattle.answers.specs.declared.Answer.{Answer}
 use Rattle.answers.specs.declared.Call.the-variants as call
 use Rattle.answers.specs.declared.Missing.{Missing}
@@ -26,11 +32,12 @@ use Rattle.answers.specs.declared.Noted.{Noted}
 use Rattle.answers.specs.declared.Outcome.{Outcome}
 use Rattle.answers.specs.declared.Started.{Started}
 use Rattle.answers.specs.declared.Ticked.{Ticked}
-use Rattle.answers.specs.Told.{leastRefusal, RefusedAs, messageTold, callNumber, clockTold, questionTold, CallTells}
+use Rattle.answers.specs.Told.{leastRefusal, RefusedAs, outcomeTold, HasVerdict, messageTold, callNumber, clockTold, questionTold, CallTells}
 use Rattle.rules.specs.promised.Accepted.{acceptedWith, acceptedIn}
 use Rattle.rules.specs.promised.AlivePast.{AliveBy}
 use Rattle.rules.specs.promised.AlivePastLaws.{alive-after, after-alive}
-use Rattle.rules.specs.calls.Admit.{senderRows}
+use Rattle.rules.specs.calls.Admit.{senderRows, verdictOf, admitted, fills}
+use Rattle.rules.specs.calls.AdmitLaws.{admitted-facts}
 use Rattle.rules.specs.calls.Alive.{aliveRows}
 use Rattle.rules.specs.promised.CameLaws.{one-applies}
 use Rattle.rules.specs.calls.Clock.{notTicked}
@@ -38,15 +45,15 @@ use Rattle.rules.specs.promised.Delivery.{May, Between, OnlyPieces, verdictFor,
 use Rattle.rules.specs.promised.DeliveryLaws.{arrives-only}
 use Rattle.rules.specs.calls.ExactlyLaws.{message-refuses, message-given, alive-refuses, alive-given, clock-refuses, clock-given, question-refuses, question-given, setup-refuses, setup-given, message-tells, alive-tells, clock-tells, question-tells, setup-tells}
 use Rattle.rules.specs.calls.First.{Row, row, Given}
-use Rattle.rules.specs.calls.FirstLaws.{above, given-above}
+use Rattle.rules.specs.calls.FirstLaws.{above, given-above, first-given, first-neither, numbered}
 use Rattle.rules.specs.promised.Join.{Joined}
-use Rattle.rules.specs.calls.Message.{area, messageRows, refused}
+use Rattle.rules.specs.calls.Message.{area, messageRows, refused, packetRows, messageNumber, taken, messageAnswer}
 use Rattle.rules.specs.pasts.Past.{World, Event, message, alive, clock, aside, question, step, after, answerTo, partTo, Said, said, Answers}
 use Rattle.rules.specs.pasts.PastLaws.{Sound}
 use Rattle.rules.specs.promised.SafeLaws.{safe}
 use Rattle.rules.specs.calls.Setup.{setupWithin}
 use Rattle.promises.specs.CourseLaws.{one-call, one-course, next-call, course-start, course-sound}
-use Rattle.promises.specs.Demands.{numberIn, NothingMore, rowsOf, Refuses, CallsRefuse, SetupRefuses, CutterRefuses, Tells, NumbersTell, NeverNine, WhoIsAlive, DeliveredOnce, Safety}
+use Rattle.promises.specs.Demands.{numberIn, NothingMore, rowsOf, Refuses, CallsRefuse, SetupRefuses, CutterRefuses, Tells, NumbersTell, VerdictTold, NeverNine, WhoIsAlive, DeliveredOnce, Safety}
 
 -- ---- demand 1
 
@@ -144,6 +151,40 @@ numbers-tell = (
   λ w e r v m. subst (Tells e) (sym (one-call w e r v m .0)) (said-tells w e),
   λ q r w m. subst (λ (x : Started). CallTells (x .call)) (sym (m .answered)) (setup-tells q),
 )
+
+-- What is no repeat has a verdict.
+verdict-some : (v : Verdict) → isRepeat v ≡ false → 1 ≤ verdictNumber v
+verdict-some Unchecked e = omega arith
+verdict-some First e = omega arith
+verdict-some Restart e = omega arith
+verdict-some Repeat e = absurd (never-both refl e)
+verdict-some Next e = omega arith
+verdict-some (Gap k) e = omega arith
+
+module _ (w : Receiver) (storage packet : List ℕ) where
+  abbrev h : Head
+  h = headOf packet
+
+  abbrev s : Sender
+  s = senderAt w (found w h)
+
+  taken-verdict : messageNumber w (length storage) packet ≡ 0 → HasVerdict (outcomeTold (taken w (found w h) s h .outcome))
+  unfolding messageRows taken admitted numbered
+  taken-verdict none =
+      let late = first-neither (packetRows (valid w) (w .count) (found w h) (length storage) packet h) (senderRows (w .test) (w .n1) s h) refl none .1 in
+      cond-case (λ (o : Outcome). HasVerdict (outcomeTold o)) (fills s h) _ _
+      (λ _ _. verdict-some (verdictOf (w .n1) s h) (admitted-facts (w .test) (w .n1) s h late .no-repeat)) (λ _ z. absurd (omega (arith, z)))
+
+  message-verdict : HasVerdict (messageTold (messageAnswer w (length storage) packet) .outcome)
+  unfolding messageAnswer refused messageRows senderRows above
+  message-verdict = cond-case (λ (a : Answer). HasVerdict (messageTold a .outcome)) (eqb (messageNumber w (length storage) packet) 0) _ _
+      (λ e. taken-verdict (eqb-true _ 0 e))
+      (λ e z. absurd (omega (arith, z, given-above 8 (messageRows w (length storage) packet) 1 refl (first-given _ 1 z (λ o. omega (arith, o))))))
+
+pub verdict-told : VerdictTold
+unfolding said
+verdict-told w packet r v m = subst (λ (x : Said (message packet)). HasVerdict (messageTold (x .0) .outcome)) (sym (one-call w (message packet) r v m .0))
+    (message-verdict (w .state) (w .storage) packet)
 
 -- A number is not given where its row does not apply and the others' numbers are above it,
 not-given : (k : ℕ) (b : Bool) (rs : List Row) → b ≡ false → above k rs ≡ true → ¬ (Given (row k b ∷ rs) k)

@@ -11,6 +11,7 @@ kept = record {
   setup-refuses = laws.setup-refuses-all;
   cutter-refuses = laws.cutter-refuses-all;
   numbers-tell = laws.numbers-tell;
+  verdict-told = laws.verdict-told;
   never-nine = laws.never-nine;
   comes-back = comes-back.comes-back;
   alive-is = laws.alive-is;

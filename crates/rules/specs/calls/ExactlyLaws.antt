@@ -10,11 +10,8 @@ use Prim.Native.Nat.{ℕ, _≤_, _<_}
 use native.Mathlib.Omega.{arith}
 use lib.Dec.{eqb, ltb}
 use lib.ListN.{length}
-use borrow.Author.Tests.{eqb-true, eqb-false, ne-eqb}
-use Rattle.octets.specs.Split.{cond-case, never-both}
-use Rattle.ring.specs.declared.Verdict.{Verdict}
-use Rattle.ring.specs.declared.Verdict.the-variants.{Unchecked, First, Restart, Repeat, Next, Gap}
-use Rattle.ring.specs.Check.{verdictNumber, isRepeat}
+use borrow.Author.Tests.{eqb-false, ne-eqb}
+use Rattle.octets.specs.Split.{cond-case}
 use Rattle.header.specs.declared.Head.{Head}
 use Rattle.header.specs.Head.{headOf}
 use Rattle.state.specs.declared.Receiver.{Receiver}
@@ -26,17 +23,15 @@ use Rattle.answers.specs.declared.Outcome.{Outcome}
 use Rattle.answers.specs.declared.Setup.{Setup}
 use Rattle.answers.specs.declared.Started.{Started}
 use Rattle.answers.specs.Told.{leastRefusal, RefusedAs, messageTold, callNumber, clockTold, questionTold, outcomeTold, OutcomeTells, CallTells, MissingTells}
-use Rattle.rules.specs.calls.Admit.{senderRows, verdictOf, admitted, fills}
-use Rattle.rules.specs.calls.AdmitLaws.{admitted-facts}
+use Rattle.rules.specs.calls.Admit.{senderRows, admitted, fills}
 use Rattle.rules.specs.calls.Alive.{aliveRows, notNoted, aliveAnswer}
 use Rattle.rules.specs.calls.Clock.{clockRows, ticked, notTicked, clockAnswer}
 use Rattle.rules.specs.calls.First.{Row, first, Given}
-use Rattle.rules.specs.calls.FirstLaws.{numbered, given-first, first-given, above, rises, first-neither, given-above}
+use Rattle.rules.specs.calls.FirstLaws.{given-first, first-given, above, rises, given-above}
 use Rattle.state.specs.Table.{found}
-use Rattle.rules.specs.calls.Message.{packetRows, messageRows, taken, refused, messageAnswer, messageStorage}
+use Rattle.rules.specs.calls.Message.{messageRows, taken, refused, messageAnswer, messageStorage}
 use Rattle.rules.specs.calls.Question.{questionRows, firstOpen, questionAnswer}
 use Rattle.rules.specs.calls.Setup.{setupWithin, setupState, setupAnswer}
-use Rattle.state.specs.Limits.{valid}
 use Rattle.state.specs.State.{senderAt, emptyReceiver}
 
 -- ---- for every call
@@ -58,21 +53,12 @@ module _ {A : Type 0} (rs : List Row) (n : above 8 rs ≡ true) (yes : A) (no : 
       by false e x = first-given rs k (sym (same (first rs)) ∙ x .0) (λ z. omega (arith, x .1, z))
 
   -- What holds of `yes` and of every refusal holds of the answer.
-  tells-by : (P : A → Type 0) → (first rs ≡ 0 → P yes) → ((k : ℕ) → leastRefusal ≤ k → P (no k)) → P Answer-by
+  tells-by : (P : A → Type 0) → P yes → ((k : ℕ) → leastRefusal ≤ k → P (no k)) → P Answer-by
   tells-by P done refuses = cond-case P (eqb (first rs) 0) yes (no (first rs))
-      (λ e. done (eqb-true (first rs) 0 e))
+      (λ e. done)
       (λ e. refuses (first rs) (omega (arith, given-above 8 rs (first rs) n (first-given rs (first rs) refl (eqb-false (first rs) 0 e)))))
 
 -- ---- the message call: 9 and 11 to 20
-
--- "0 where nothing is delivered"
-verdict-some : (v : Verdict) → isRepeat v ≡ false → 1 ≤ verdictNumber v
-verdict-some Unchecked e = omega arith
-verdict-some First e = omega arith
-verdict-some Restart e = omega arith
-verdict-some Repeat e = absurd (never-both refl e)
-verdict-some Next e = omega arith
-verdict-some (Gap k) e = omega arith
 
 module _ (w : Receiver) (storage packet : List ℕ) where
   abbrev h : Head
@@ -93,11 +79,9 @@ module _ (w : Receiver) (storage packet : List ℕ) where
   unfolding taken admitted
   taken-told = cond-case (λ (o : Outcome). outcomeTold o .number < leastRefusal) (fills s h) _ _ (λ _. omega arith) (λ _. omega arith)
 
-  taken-tells : first (messageRows w (length storage) packet) ≡ 0 → OutcomeTells (taken w (found w h) s h .outcome)
-  unfolding messageRows taken admitted numbered
-  taken-tells none =
-      let late = first-neither (packetRows (valid w) (w .count) (found w h) (length storage) packet h) (senderRows (w .test) (w .n1) s h) refl none .1 in
-      cond-case OutcomeTells (fills s h) _ _ (λ _. verdict-some (verdictOf (w .n1) s h) (admitted-facts (w .test) (w .n1) s h late .no-repeat)) (λ _. tt)
+  taken-tells : OutcomeTells (taken w (found w h) s h .outcome)
+  unfolding taken admitted
+  taken-tells = cond-case OutcomeTells (fills s h) _ _ (λ _. tt) (λ _. tt)
 
   pub message-refuses : (k : ℕ) → Given (messageRows w (length storage) packet) k
       → (messageAnswer w (length storage) packet ≡ refused w k) × (messageStorage w storage packet ≡ storage)
@@ -138,7 +122,7 @@ module _ (w : Receiver) (packet : List ℕ) where
 
   pub alive-tells : CallTells (aliveAnswer w packet .call)
   unfolding aliveAnswer
-  alive-tells = tells-by (aliveRows w packet) alive-above _ (notNoted w) (λ a. CallTells (a .call)) (λ _. tt) (λ k more. more)
+  alive-tells = tells-by (aliveRows w packet) alive-above _ (notNoted w) (λ a. CallTells (a .call)) tt (λ k more. more)
 
 -- ---- the clock call: 9, 21
 
@@ -161,7 +145,7 @@ module _ (w : Receiver) (now : ℕ) where
 
   pub clock-tells : CallTells (clockAnswer w now .call)
   unfolding clockAnswer ticked notTicked
-  clock-tells = tells-by (clockRows w now) clock-above _ (notTicked w) (λ a. CallTells (a .call)) (λ _. tt) (λ k more. more)
+  clock-tells = tells-by (clockRows w now) clock-above _ (notTicked w) (λ a. CallTells (a .call)) tt (λ k more. more)
 
 -- ---- the question: 9
 
@@ -183,7 +167,7 @@ module _ (w : Receiver) where
   pub question-tells : MissingTells (questionAnswer w)
   unfolding questionAnswer
   question-tells = tells-by (questionRows w) question-above _ missing.Refused MissingTells
-      (λ _. cond-case MissingTells (ltb (firstOpen w) (w .count)) _ _ (λ _. tt) (λ _. tt)) (λ k more. more)
+      (cond-case MissingTells (ltb (firstOpen w) (w .count)) _ _ (λ _. tt) (λ _. tt)) (λ k more. more)
 
 -- ---- setup: 10
 
