@@ -14,15 +14,18 @@ use libc::STDIN_FILENO;
 use libc::STDOUT_FILENO;
 use state::Receiver;
 
+// A setup of the program has at most four senders.
+const ROOM: usize = 4 * Receiver::AREA;
+
 fn main() {
-    let mut storage = [0u8; 65_536];
+    let mut storage = [0u8; ROOM];
     let mut field = [0u8; 65_538];
     let mut state = Receiver::empty();
     // A proved loop has to end, and nothing says that an input does: no run uses these turns up.
     let mut turns = u64::MAX;
     while turns > 0 {
         let read = read_field(&mut field);
-        let room = lent(state.count, 65_536);
+        let room = lent(state.count, ROOM);
         let s = turn(state, &mut storage[..room], &field[..read]);
         let line = s.line;
         if !write_line(line) {

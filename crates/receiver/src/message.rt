@@ -25,7 +25,7 @@ use state::Address;
 use state::Receiver;
 
 // The most octets of a message's PDU.
-const MOST: usize = 1_460;
+pub const MOST: usize = 1_460;
 
 pub fn message(mut state: Receiver, storage: &mut [u8], packet: &[u8]) -> Answer
     ensures answer { λ r. ⌜ r ≡ messageAnswer state (length (now (storage .entry))) (now (packet .entry)) ⌝ }

@@ -22,7 +22,7 @@ use Rattle.state.specs.State.{noMessage, joinedAs}
 
 -- ---- the open message and the PDU
 
--- The version of the message that is open.
+-- "the same version" as the open message's.
 abbrev pub sameVersion : Sender → Head → Bool
 sameVersion s h = eqb (s .message .version .0) (h .given .version .0)
 
