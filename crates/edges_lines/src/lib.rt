@@ -8,6 +8,9 @@ ghost use Rattle.edges_lines.specs.Sum.{withOctet, sumOf};
 pub mod calls;
 pub mod record;
 
+use octets::from;
+use octets::read1;
+
 // "the title stands there as on this page"
 pub fn title(octets: &[u8]) {
     io::write_all(1, b"# ");
@@ -27,15 +30,29 @@ pub fn line(letter: u8, numbers: &[u64]) {
     io::write_all(1, b"\n");
 }
 
-// The same, of octets.
+// The same, of the first 64 octets.
 pub fn octets_line(letter: u8, octets: &[u8]) {
     io::write_all(1, &[letter]);
-    let mut i = 0;
-    while i < octets.len() {
-        octet_word(octets[i]);
-        i += 1;
-    }
+    eight(octets);
+    eight(from(octets, 8));
+    eight(from(octets, 16));
+    eight(from(octets, 24));
+    eight(from(octets, 32));
+    eight(from(octets, 40));
+    eight(from(octets, 48));
+    eight(from(octets, 56));
     io::write_all(1, b"\n");
+}
+
+fn eight(octets: &[u8]) {
+    octet_word(read1(octets, 0));
+    octet_word(read1(octets, 1));
+    octet_word(read1(octets, 2));
+    octet_word(read1(octets, 3));
+    octet_word(read1(octets, 4));
+    octet_word(read1(octets, 5));
+    octet_word(read1(octets, 6));
+    octet_word(read1(octets, 7));
 }
 
 fn octet_word(octet: u8) {
