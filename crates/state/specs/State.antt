@@ -36,16 +36,6 @@ newSender a = record { address = a; last = noLast; «open» = false; message = n
 abbrev pub noSender : Sender
 noSender = newSender noAddress
 
--- A sender's record with another message, with another time at which it was heard, and with other last numbers: all else stays.
-abbrev pub withMessage : Sender → Bool → Message → Sender
-withMessage s now-open m = record { address = s .address; last = s .last; «open» = now-open; message = m; alive = s .alive; heard = s .heard }
-
-abbrev pub withHeard : Sender → Bool → Heard → Sender
-withHeard s now-alive h = record { address = s .address; last = s .last; «open» = s .«open»; message = s .message; alive = now-alive; heard = h }
-
-abbrev pub withLast : Sender → Last → Sender
-withLast s l = record { address = s .address; last = l; «open» = s .«open»; message = s .message; alive = s .alive; heard = s .heard }
-
 -- The sender at a place of the table.
 abbrev pub senderAt : Receiver → ℕ → Sender
 senderAt w i = getD (w .senders) i noSender
@@ -79,10 +69,12 @@ emptyReceiver = stateOf (record { test = false; n1 = 1; t = 1; count = 0 }) 0 (r
 abbrev pub withSenders : Receiver → List Sender → Receiver
 withSenders w l = stateOf (settingsFrom w) (w .clock) l
 
--- A sender's record with another last number and message, open or not,
-abbrev pub joinedAs : Sender → Last → Bool → Message → Sender
-joinedAs s last is message = record { address = s .address; last = last; «open» = is; message = message; alive = s .alive; heard = s .heard }
+-- A sender's record with another message, open or not; heard at another time, alive or not; with another last version and number.
+abbrev pub withMessage : Sender → Bool → Message → Sender
+withMessage s now-open m = record { address = s .address; last = s .last; «open» = now-open; message = m; alive = s .alive; heard = s .heard }
 
--- and one that was heard at another time, alive or not.
-abbrev pub heardAs : Sender → Bool → Heard → Sender
-heardAs s alive heard = record { address = s .address; last = s .last; «open» = s .«open»; message = s .message; alive = alive; heard = heard }
+abbrev pub withHeard : Sender → Bool → Heard → Sender
+withHeard s now-alive h = record { address = s .address; last = s .last; «open» = s .«open»; message = s .message; alive = now-alive; heard = h }
+
+abbrev pub withLast : Sender → Last → Sender
+withLast s l = record { address = s .address; last = l; «open» = s .«open»; message = s .message; alive = s .alive; heard = s .heard }

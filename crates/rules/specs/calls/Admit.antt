@@ -18,7 +18,7 @@ use Rattle.answers.specs.declared.Admission.{Admission}
 use Rattle.answers.specs.declared.Dropped.{Dropped}
 use Rattle.answers.specs.declared.Outcome.the-variants.{Refused, Stored, Delivered}
 use Rattle.rules.specs.calls.First.{Row, row, first}
-use Rattle.state.specs.State.{noMessage, joinedAs}
+use Rattle.state.specs.State.{noMessage, withMessage, withLast}
 
 -- ---- the open message and the PDU
 
@@ -89,7 +89,7 @@ lastBy v s h = cond (isUnchecked v) (s .last) (record { version = h .given .vers
 
 -- "nothing is then open"
 abbrev pub closed : Sender → Last → Sender
-closed s l = joinedAs s l false noMessage
+closed s l = withLast (withMessage s false noMessage) l
 
 -- "kept with V_SEQ, SEQ, TCD, n, TBN, u and a 64-bit map of pieces held"; "A fragment that is stored sets the message's stamp to the clock."
 abbrev pub messageOf : ℕ → ℕ → Head → Message
@@ -105,7 +105,7 @@ messageOf clock map h = record {
 }
 
 abbrev pub opened : Sender → Message → Sender
-opened s m = joinedAs s (s .last) true m
+opened s m = withMessage s true m
 
 -- The sender's record afterwards.
 unfoldable pub senderAfter : ℕ → ℕ → Sender → Head → Sender

@@ -8,14 +8,14 @@ use Rattle.state.specs.declared.Receiver.{Receiver}
 use Rattle.answers.specs.declared.Answer.{Answer}
 use Rattle.answers.specs.declared.Noted.{Noted}
 use Rattle.answers.specs.declared.Ticked.{Ticked}
-use Rattle.state.specs.State.{noMessage, noHeard, noSender, senderAt, settingsFrom, joinedAs, heardAs}
+use Rattle.state.specs.State.{noMessage, noHeard, noSender, senderAt, settingsFrom, withMessage, withHeard}
 
 -- What is looked at of a sender: not "the record of a message not open", nor "the stamp and al_tm_out of a sender not alive".
 unfoldable pub seen : Sender → Sender
 seen s =
     let message = cond (s .«open») (s .message) noMessage in
     let heard = cond (s .alive) (s .heard) noHeard in
-    heardAs (joinedAs s (s .last) (s .«open») message) (s .alive) heard
+    withHeard (withMessage s (s .«open») message) (s .alive) heard
 
 -- ---- "never looked at"
 

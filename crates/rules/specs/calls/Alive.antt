@@ -19,7 +19,7 @@ use Rattle.rules.specs.calls.First.{Row, row, first}
 use Rattle.state.specs.Limits.{valid}
 use Rattle.state.specs.Table.{found}
 use Rattle.rules.specs.calls.Message.{withSender}
-use Rattle.state.specs.State.{senderAt, noHeard, heardAs}
+use Rattle.state.specs.State.{senderAt, noHeard, withHeard}
 
 -- ---- the numbers
 
@@ -56,7 +56,7 @@ aliveRows w packet = signalRows (valid w) (w .count) (found w (headOf packet)) p
 -- "Mode 1: the sender is alive, stamped with the clock and al_tm_out (unit by 5.3). Modes 2 and 3: dead from then on"
 unfoldable pub heardBy : ℕ → Sender → Body → Sender
 heardBy clock s b =
-    cond (eqb (b .mode) 1) (heardAs s true (record { stamp = clock; timeout = b .timeout })) (heardAs s false noHeard)
+    cond (eqb (b .mode) 1) (withHeard s true (record { stamp = clock; timeout = b .timeout })) (withHeard s false noHeard)
 
 -- ---- the call
 

@@ -10,7 +10,7 @@ use Rattle.answers.specs.declared.Call.the-variants.{Done, Refused}
 use Rattle.answers.specs.declared.Ticked.{Ticked}
 use Rattle.rules.specs.calls.First.{Row, row, first}
 use Rattle.state.specs.Limits.{valid, clockMost}
-use Rattle.state.specs.State.{noMessage, noHeard, noSender, settingsFrom, stateOf, joinedAs, heardAs}
+use Rattle.state.specs.State.{noMessage, noHeard, noSender, settingsFrom, stateOf, withMessage, withHeard}
 
 -- "21: clock back or above its limit"
 abbrev pub clockRows : Receiver → ℕ → List Row
@@ -26,10 +26,10 @@ dies ms s = s .alive && leb (1000 * s .heard .timeout) (ms - s .heard .stamp)
 
 -- "The record of a message not open, the stamp and al_tm_out of a sender not alive … are written 0".
 abbrev pub droppedIf : Bool → Sender → Sender
-droppedIf so s = joinedAs s (s .last) (s .«open» && not so) (cond so noMessage (s .message))
+droppedIf so s = withMessage s (s .«open» && not so) (cond so noMessage (s .message))
 
 abbrev pub deadIf : Bool → Sender → Sender
-deadIf so s = heardAs s (s .alive && not so) (cond so noHeard (s .heard))
+deadIf so s = withHeard s (s .alive && not so) (cond so noHeard (s .heard))
 
 unfoldable pub aged : ℕ → ℕ → Sender → Sender
 aged t now s = deadIf (dies now s) (droppedIf (drops t now s) s)

@@ -12,7 +12,7 @@ use Rattle.rules.specs.calls.Alike.{seen}
 use Rattle.rules.specs.calls.Alive.{heardBy}
 use Rattle.rules.specs.calls.Clock.{drops, dies, aged}
 use Rattle.state.specs.Limits.{senderWithin}
-use Rattle.state.specs.State.{joinedAs, heardAs}
+use Rattle.state.specs.State.{withMessage, withHeard}
 
 -- ---- branches
 
@@ -46,7 +46,7 @@ changes-zero f law s e = law s ∙ ap f e
 
 -- A sender has a message open or not, and is alive or not.
 abbrev flagged : Sender → Bool → Bool → Sender
-flagged s o v = heardAs (joinedAs s (s .last) o (s .message)) v (s .heard)
+flagged s o v = withHeard (withMessage s o (s .message)) v (s .heard)
 
 module _ (P : Sender → Type 0) where
   abbrev Cases : Sender → Type 0

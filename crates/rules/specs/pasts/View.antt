@@ -9,7 +9,7 @@ use Rattle.header.specs.Head.{headOf}
 use Rattle.state.specs.declared.Address.{Address}
 use Rattle.state.specs.declared.Sender.{Sender}
 use Rattle.state.specs.Limits.{sameAddress, clockMost}
-use Rattle.state.specs.State.{noSender, senderAt, Settings, joinedAs}
+use Rattle.state.specs.State.{noSender, senderAt, Settings, withMessage, withLast}
 use Rattle.state.specs.Table.{source}
 use Rattle.answers.specs.declared.Outcome.{Outcome}
 use Rattle.rules.specs.calls.Admit.{senderRows, admitted, admission}
@@ -25,7 +25,7 @@ pub record View : Type 0 where
 
 -- What joining looks at of a sender's record: all but who it is and whether it is alive.
 abbrev pub joining : Sender → Sender
-joining s = joinedAs noSender (s .last) (s .«open») (s .message)
+joining s = withLast (withMessage noSender (s .«open») (s .message)) (s .last)
 
 unfoldable pub view : World → ℕ → View
 view w i = record { sender = joining (senderAt (w .state) i); now = w .state .clock; octets = run (i * area) area (w .storage) }

@@ -20,7 +20,7 @@ use Rattle.state.specs.declared.Heard.{Heard}
 use Rattle.state.specs.declared.Receiver.{Receiver}
 use Rattle.state.specs.declared.Sender.{Sender}
 use Rattle.state.specs.Limits.{sameAddress, addressAt, valid}
-use Rattle.state.specs.State.{noSender, senderAt, heardAs}
+use Rattle.state.specs.State.{noSender, senderAt, withHeard}
 use Rattle.state.specs.Table.{source, found}
 use Rattle.state.specs.WithinLaws.{valid-length}
 use Rattle.answers.specs.declared.Noted.{Noted}
@@ -45,7 +45,7 @@ record Life : Type 0 where
 
 -- All of a sender's record but whether it is alive, its stamp and its al_tm_out is put away.
 abbrev living : Sender → Sender
-living s = heardAs noSender (s .alive) (s .heard)
+living s = withHeard noSender (s .alive) (s .heard)
 
 unfoldable life : World → ℕ → Life
 life w i = record { sender = living (senderAt (w .state) i); now = w .state .clock }
@@ -69,7 +69,7 @@ newLife = record { sender = noSender; now = 0 }
 
 -- Heard by a signal of mode 1.
 abbrev heardLife : Life → Body → Life
-heardLife l b = record { sender = heardAs (l .sender) true (record { stamp = l .now; timeout = b .timeout }); now = l .now }
+heardLife l b = record { sender = withHeard (l .sender) true (record { stamp = l .now; timeout = b .timeout }); now = l .now }
 
 living-after : (n1 now : ℕ) (s : Sender) (h : Head) → living (admitted n1 now s h .sender) ≡ living s
 unfolding admitted senderAfter
