@@ -1,5 +1,5 @@
-// The alive call: who is alive, and who says that it leaves. One function holds the state; it copies one sender's record out, and
-// puts it back.
+// The alive call: who is alive, and who says that it leaves. One function holds the state; it copies one sender's
+// record out, and puts it back.
 //
 // It is total: it takes any state and any octets, and refuses with their number those outside the limits.
 ghost use mathlib.Core.Path.{_≡_};

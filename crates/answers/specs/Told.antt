@@ -1,5 +1,5 @@
--- "If an answer is an enum, a definition lists this paper's number and values for each of its cases": one for each call, but the cutter's, which
--- stands beside it in `cut`.
+-- "If an answer is an enum, a definition lists this paper's number and values for each of its cases": one for each
+-- call, but the cutter's, which stands beside it in `cut`.
 use Prim.Native.Nat.{ℕ, _≤_}
 use mathlib.Core.Path.{_≡_}
 use mathlib.Core.Bool.{Bool, true, false}
@@ -38,7 +38,8 @@ pub record OutcomeTold : Type 0 where
 abbrev pub notDelivered : ℕ → OutcomeTold
 notDelivered k = record { number = k; verdict = 0; skipped = 0 }
 
--- "1 delivered. Verdicts: 1 first, 2 next, 3 restart, 4 gap, 5 unchecked"; "gap, with (SEQ − R − 1) modulo M numbers skipped"
+-- "1 delivered. Verdicts: 1 first, 2 next, 3 restart, 4 gap, 5 unchecked"; "gap, with (SEQ − R − 1) modulo M numbers
+-- skipped"
 abbrev pub deliveredAs : Verdict → OutcomeTold
 deliveredAs v = record { number = 1; verdict = verdictNumber v; skipped = verdictSkipped v }
 
@@ -65,7 +66,8 @@ outcomeRefused (outcome.Delivered v) = false
 
 -- ---- the message call: what is handed over
 
--- "handed over as a part of the packet or of the storage": of neither (0), the packet (1) or the storage (2). This paper has no number for it.
+-- "handed over as a part of the packet or of the storage": of neither (0), the packet (1) or the storage (2). This
+-- paper has no number for it.
 pub record PlaceTold : Type 0 where
   pub slice : ℕ
   pub start : ℕ
@@ -75,7 +77,8 @@ pub record PlaceTold : Type 0 where
 abbrev pub nothingHanded : PlaceTold
 nothingHanded = record { slice = 0; start = 0; length = 0 }
 
--- "a one-piece message comes back as the part of the lent packet behind its header": where it starts and ends is not told.
+-- "a one-piece message comes back as the part of the lent packet behind its header": where it starts and ends is not
+-- told.
 abbrev pub placeTold : Where → PlaceTold
 placeTold place.Nothing = nothingHanded
 placeTold place.Packet = record { slice = 1; start = 0; length = 0 }

@@ -1,4 +1,5 @@
--- What is told tells the answer: each answer is read back from its number and values, so no other is told alike. Assumes nothing.
+-- What is told tells the answer: each answer is read back from its number and values, so no other is told alike.
+-- Assumes nothing.
 use Prim.Native.Nat.{ℕ}
 use mathlib.Core.Path.{_≡_, refl, sym, ap, _∙_}
 use mathlib.Core.Bool.{cond}

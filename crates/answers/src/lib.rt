@@ -1,4 +1,5 @@
-// What the calls take and answer, and beside each enum its number and values in this paper, as specs/Told.antt lists them for each case.
+// What the calls take and answer, and beside each enum its number and values in this paper, as specs/Told.antt lists
+// them for each case.
 ghost use mathlib.Core.Path.{_≡_};
 ghost use Rattle.answers.specs.Told.{outcomeTold, refusedNumber, callNumber, questionTold};
 use ring::Number;

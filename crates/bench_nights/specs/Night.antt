@@ -1,4 +1,5 @@
--- A night: a receiver is set up and given packets, one behind the other. What it does to state and storage is `after` of `rules`.
+-- A night: a receiver is set up and given packets, one behind the other. What it does to state and storage is `after`
+-- of `rules`.
 use Prim.Native.Nat.{ℕ, zero, suc, _+_, _*_, _%_, _^_}
 use mathlib.Core.List.{List, [], _∷_}
 use lib.ListN.{length, take, drop, set, replicate}
@@ -39,7 +40,8 @@ packetsBy (n ∷ sizes) packets = message (take n packets) ∷ packetsBy sizes (
 
 -- ---- the number that is answered
 
--- The sum with one more answer in it: a refusal's number or a delivery's verdict, the pieces held, and the length that was handed over.
+-- The sum with one more answer in it: a refusal's number or a delivery's verdict, the pieces held, and the length that
+-- was handed over.
 abbrev pub summed : ℕ → Outcome → ℕ → ℕ → ℕ
 summed sum o held n = ((sum + (refusedNumber o + outcomeTold o .verdict + held * 256)) % 2 ^ 64 + n) % 2 ^ 64
 

@@ -1,7 +1,8 @@
-// Whole nights in one call, for the bench: a receiver is set up and given the packets that lie one behind the other in a lent slice, and
-// a message is cut piece by piece. A program in C lends the octets, and measures.
+// Whole nights in one call, for the bench: a receiver is set up and given the packets that lie one behind the other in
+// a lent slice, and a message is cut piece by piece. A program in C lends the octets, and measures.
 //
-// What is answered is one number made of all answers, so that none can be left out and two programs are quickly compared.
+// What is answered is one number made of all answers, so that none can be left out and two programs are quickly
+// compared.
 ghost use mathlib.Core.Path.{_≡_};
 ghost use Rattle.state.specs.State.{sendersMost};
 ghost use Rattle.rules.specs.pasts.Past.{after};

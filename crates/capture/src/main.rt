@@ -1,4 +1,5 @@
-// Runs a capture: reads tagged fields from standard input, one at a time, and writes the line of each to standard output.
+// Runs a capture: reads tagged fields from standard input, one at a time, and writes the line of each to standard
+// output.
 //
 // Memory does not grow with the input: one field is held, and 16,384 octets for each of at most four senders.
 ghost use mathlib.Core.Path.{_≡_};
@@ -40,8 +41,8 @@ fn main() {
     }
 }
 
-// Reads the next field to the front of the buffer, however the reads are cut up, and answers how many octets it is. They are fewer
-// than the field has only where the input ends, and only the head where that is bad.
+// Reads the next field to the front of the buffer, however the reads are cut up, and answers how many octets it is.
+// They are fewer than the field has only where the input ends, and only the head where that is bad.
 fn read_field(field: &mut [u8]) -> usize
     requires { ⌜ length (now field) ≡ 65538 ⌝ }
     ensures { λ r. ⌜ r ≤ 65538 ⌝ }

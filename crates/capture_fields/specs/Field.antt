@@ -24,8 +24,8 @@ sizeOf s = number 2 s 1
 abbrev pub headSize : ℕ
 headSize = 3
 
--- "Tag 1 setup …", of "10, 13, 16 or 19 octets"; "Tag 2 message PDU, 3 clock (8 octets), 4 alive PDU"; "Bad is another tag, tag 1 not of
--- 10, 13, 16 or 19 octets, tag 3 not of 8; a PDU of any length goes to its call."
+-- "Tag 1 setup …", of "10, 13, 16 or 19 octets"; "Tag 2 message PDU, 3 clock (8 octets), 4 alive PDU"; "Bad is another
+-- tag, tag 1 not of 10, 13, 16 or 19 octets, tag 3 not of 8; a PDU of any length goes to its call."
 unfoldable pub kindOf : ℕ → ℕ → Kind
 kindOf tag n =
     cond (eqb tag 1 && (eqb n 10 || eqb n 13 || eqb n 16 || eqb n 19)) kind.Setup

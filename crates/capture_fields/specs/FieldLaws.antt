@@ -1,4 +1,5 @@
--- Laws of cutting: what the tests of the code say, and that a field is the same however much more was read. Assumes nothing.
+-- Laws of cutting: what the tests of the code say, and that a field is the same however much more was read. Assumes
+-- nothing.
 use mathlib.Core.Path.{_≡_, refl, sym, ap, _∙_}
 use mathlib.Core.Bool.{Bool, true, false, cond}
 use mathlib.Core.List.{List, _++_}

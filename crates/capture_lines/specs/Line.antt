@@ -1,5 +1,5 @@
--- "Lines, in decimal with one blank between: S answer; P answer verdict held length …; C answer, dropped map, dead map …; A answer."
--- "A bad or cut field ends the run with the line "E"."
+-- "Lines, in decimal with one blank between: S answer; P answer verdict held length …; C answer, dropped map, dead map
+-- …; A answer." "A bad or cut field ends the run with the line "E"."
 use Prim.Native.Nat.{ℕ, zero, suc, _+_, _-_, _/_, _%_}
 use mathlib.Core.Bool.{cond}
 use mathlib.Core.List.{List, [], _∷_, _++_}

@@ -33,7 +33,8 @@ startedStep w a = record {
   on = true;
 }
 
--- "P answer verdict held length (held: pieces then held for the PDU's sender, 0 on a refusal; length of a delivery, otherwise 0)"
+-- "P answer verdict held length (held: pieces then held for the PDU's sender, 0 on a refusal; length of a delivery,
+-- otherwise 0)"
 abbrev pub answeredStep : Answer → List ℕ → Step
 answeredStep a delivered = record {
   state = a .state;

@@ -1,6 +1,7 @@
 // One field of a run: the receiver's call on its contents, and the line that its answer gives.
 //
-// Every public function is total: octets, states and storage may be any. What a program adds is reading and writing alone.
+// Every public function is total: octets, states and storage may be any. What a program adds is reading and writing
+// alone.
 ghost use mathlib.Core.Path.{_≡_};
 ghost use mathlib.Core.Bool.{cond};
 ghost use lib.Dec.{eqb};

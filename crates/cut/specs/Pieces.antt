@@ -1,5 +1,5 @@
--- Cutting (D.4.3): how many pieces a message has, and the length and place of each. n is the message length, u the piece
--- length, c a piece number from 1.
+-- Cutting (D.4.3): how many pieces a message has, and the length and place of each. n is the message length, u the
+-- piece length, c a piece number from 1.
 use Prim.Native.Nat.{ℕ, zero, suc, _+_, _-_, _*_, _/_}
 use mathlib.Core.Bool.{cond}
 use mathlib.Core.List.{List, [], _++_}

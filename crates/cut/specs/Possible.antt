@@ -14,8 +14,8 @@ messageLength c = c .ml - headerSize
 abbrev pub ownLength : Cut → ℕ
 ownLength c = c .bsize - headerSize
 
--- "With CBN < TBN: u = p … With CBN = TBN > 1: n − p … divides evenly by TBN − 1, the quotient is u". With TBN = 1 no u is
--- named; the one piece is the whole message, and n stands for it.
+-- "With CBN < TBN: u = p … With CBN = TBN > 1: n − p … divides evenly by TBN − 1, the quotient is u". With TBN = 1 no u
+-- is named; the one piece is the whole message, and n stands for it.
 unfoldable pub unit : Cut → ℕ
 unit c =
     cond (eqb (c .tbn) 1) (messageLength c)
@@ -33,7 +33,8 @@ isUnit = within leastUnit mostUnit
 unfoldable pub frontPossible : ℕ → ℕ → ℕ → Bool
 frontPossible n t u = isUnit u && ltb ((t - 1) * u) n && leb n (t * u)
 
--- "With CBN = TBN > 1: n − p is positive and divides evenly by TBN − 1, the quotient is u, 256 ≤ u ≤ 1,396, and 1 ≤ p ≤ u."
+-- "With CBN = TBN > 1: n − p is positive and divides evenly by TBN − 1, the quotient is u, 256 ≤ u ≤ 1,396, and 1 ≤ p ≤
+-- u."
 unfoldable pub lastPossible : ℕ → ℕ → ℕ → ℕ → Bool
 lastPossible n t p u = ltb p n && eqb ((n - p) % (t - 1)) 0 && isUnit u && leb 1 p && leb p u
 

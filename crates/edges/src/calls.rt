@@ -1,6 +1,7 @@
 // The calls on the state in use, by their tags: docs/EDGES.md, "The calls as fields".
 //
-// What is done with an answer stands apart from the call: a function that returns a state is the faster to prove the less it does.
+// What is done with an answer stands apart from the call: a function that returns a state is the faster to prove the
+// less it does.
 use crate::damage::with_sender;
 use crate::damage::with_settings;
 use answers::Answer;

@@ -1,7 +1,8 @@
-// The calls of docs/EDGES.md that leave the state as it is, each with its lines: the question, the cutter, the part that is handed
-// over, the next field.
+// The calls of docs/EDGES.md that leave the state as it is, each with its lines: the question, the cutter, the part
+// that is handed over, the next field.
 //
-// No contract can say what is written, so these functions have none: they answer nothing, and nothing is lent to them to write.
+// No contract can say what is written, so these functions have none: they answer nothing, and nothing is lent to them
+// to write.
 use answers::Where;
 use capture_fields::Kind;
 use capture_fields::Next;

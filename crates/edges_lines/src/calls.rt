@@ -1,4 +1,5 @@
-// The lines of the calls: what is printed of each answer. A call's tag is the letter of its line, and a small one prints nothing.
+// The lines of the calls: what is printed of each answer. A call's tag is the letter of its line, and a small one
+// prints nothing.
 use crate::line;
 use answers::Call;
 use answers::Dropped;
@@ -22,8 +23,8 @@ pub fn clock_line(tag: u8, call: Call, dropped: u16, dead: u16) {
     told(tag, &[call.number() as u64, dropped as u64, dead as u64]);
 }
 
-// Of the state that was asked. 01: "trailing ones give the lowest missing piece": they are asked beside the question's loops, and both are
-// printed.
+// Of the state that was asked. 01: "trailing ones give the lowest missing piece": they are asked beside the question's
+// loops, and both are printed.
 pub fn question_line(missing: Missing, w: Receiver) {
     line(
         b'Q',

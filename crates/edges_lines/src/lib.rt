@@ -1,6 +1,7 @@
 // What the programs of docs/EDGES.md print: lines of decimal numbers, and the sum that stands for many octets.
 //
-// No contract can say what is written, so a function that only prints has none: it answers nothing, and nothing is lent to it to write.
+// No contract can say what is written, so a function that only prints has none: it answers nothing, and nothing is lent
+// to it to write.
 ghost use Prim.Native.Nat.{_%_};
 ghost use mathlib.Core.Path.{_≡_};
 ghost use Rattle.edges_lines.specs.Sum.{withOctet, sumOf};

@@ -1,4 +1,5 @@
--- Laws of layouts, over any slots that do not overlap: what is written slot by slot is the layout, and each slot reads back. Assumes nothing.
+-- Laws of layouts, over any slots that do not overlap: what is written slot by slot is the layout, and each slot reads
+-- back. Assumes nothing.
 use mathlib.Core.Path.{_≡_, refl, sym, ap, _∙_}
 use mathlib.Core.Logic.{_⊎_, inl, inr, ⊎-elim}
 use mathlib.Core.Bool.{Bool, true, false, _||_}

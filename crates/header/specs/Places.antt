@@ -1,5 +1,5 @@
--- The places of the ADP header: the one table. All else uses only what is proved of it here: no two places overlap, each
--- ends by 64, and together they cover all 64. docs/HEADER.md says where each comes from.
+-- The places of the ADP header: the one table. All else uses only what is proved of it here: no two places overlap,
+-- each ends by 64, and together they cover all 64. docs/HEADER.md says where each comes from.
 use mathlib.Core.Path.{_≡_, refl}
 use mathlib.Core.Bool.{true}
 use mathlib.Core.List.{List, [], _∷_}

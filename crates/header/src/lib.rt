@@ -1,7 +1,7 @@
 // The ADP header (5.1): read from a packet and written into a buffer, by value.
 //
-// Every function is total. An octet past the end of a packet reads as 0, and a buffer that is shorter than a header stays
-// as it is. Which values are admitted is said in `codes`; reading and writing take any.
+// Every function is total. An octet past the end of a packet reads as 0, and a buffer that is shorter than a header
+// stays as it is. Which values are admitted is said in `codes`; reading and writing take any.
 ghost use mathlib.Core.Path.{_≡_};
 ghost use lib.Dec.{eqb};
 ghost use Rattle.octets.specs.Number.{octets};

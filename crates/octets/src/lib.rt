@@ -1,4 +1,5 @@
-// Numbers of 1, 2, 4 and 8 octets in lent slices, the high octet first, and a run of octets taken from one or laid down in one.
+// Numbers of 1, 2, 4 and 8 octets in lent slices, the high octet first, and a run of octets taken from one or laid down
+// in one.
 //
 // Every function is total. An octet past the end of a slice reads as 0. What would reach past the end is not laid
 // down at all, and the slice stays as it is. Nothing here knows of ADP.
@@ -81,8 +82,8 @@ fn copy(s: &mut [u8], at: usize, run: &[u8])
     }
 }
 
-// Lays the low w octets of a number down at a place. Each caller gives a constant w, so that nothing of the loop and of the octets not
-// asked for is left in what it compiles to.
+// Lays the low w octets of a number down at a place. Each caller gives a constant w, so that nothing of the loop and of
+// the octets not asked for is left in what it compiles to.
 fn write(s: &mut [u8], at: usize, w: usize, x: u64)
     requires { ⌜ w ≤ 8 ⌝ }
     ensures { λ _. ⌜ now (s .exit) ≡ laid (now (s .entry)) at (octets w x) ⌝ }

@@ -1,6 +1,7 @@
--- "A past is a setup, storage of its right length with any octets in it, and then calls, each given the state and storage that the one
--- before left." Here a call is known by its public contract alone, as a relation between what it was given, what it answered and what it
--- left: so a course is that of any program whose calls meet the contracts. That ours do is shown by the functions of src/.
+-- "A past is a setup, storage of its right length with any octets in it, and then calls, each given the state and
+-- storage that the one before left." Here a call is known by its public contract alone, as a relation between what it
+-- was given, what it answered and what it left: so a course is that of any program whose calls meet the contracts. That
+-- ours do is shown by the functions of src/.
 use Prim.Native.Nat.{ℕ, _*_}
 use mathlib.Core.Path.{_≡_}
 use mathlib.Core.List.{List, [], _∷_}
@@ -66,14 +67,16 @@ pub record CutterMeets (g : Given) (m : List ℕ) (u c : ℕ) (buffer : List ℕ
 
 -- ---- a course
 
--- What the call e said at the world w, and the world that it left; a message call, with the part that is then handed over.
+-- What the call e said at the world w, and the world that it left; a message call, with the part that is then handed
+-- over.
 abbrev pub Meets : (w : World) (e : Event) → Said e → World → Type 0
 Meets w (message packet) r v = MessageMeets w packet (r .0) v × PartMeets (r .0 .place) packet (v .storage) (r .1)
 Meets w (alive packet) r v = AliveMeets w packet r v
 Meets w (clock now) r v = ClockMeets w now r v
 Meets w (aside question) r v = QuestionMeets w r v
 
--- Calls from the world w on, in the order of time, "each given the state and storage that the one before left"; v is what the last one left.
+-- Calls from the world w on, in the order of time, "each given the state and storage that the one before left"; v is
+-- what the last one left.
 abbrev pub Course : (w : World) (es : List Event) → Answers es → World → Type 0
 Course w [] rs v = v ≡ w
 Course w (e ∷ es) rs v = (u : World) × Meets w e (rs .0) u × Course u es (rs .1) v

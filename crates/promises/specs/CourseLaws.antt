@@ -1,5 +1,5 @@
--- The contracts fix one course: what every call answers and leaves is what `rules` says. So the theorems of `rules` about pasts are about
--- every program whose calls meet the contracts. Assumes nothing.
+-- The contracts fix one course: what every call answers and leaves is what `rules` says. So the theorems of `rules`
+-- about pasts are about every program whose calls meet the contracts. Assumes nothing.
 use Prim.Native.Nat.{ℕ}
 use mathlib.Core.Path.{_≡_, refl, sym, ap, subst, _∙_}
 use mathlib.Core.List.{List, [], _∷_}
@@ -68,7 +68,8 @@ pub next-call : (w : World) (es : List Event) (rs : Answers es) (v : World) → 
     → (r ≡ said (after w es) e) × (u ≡ step (after w es) e)
 next-call w es rs v c e r u m = one-call (after w es) e r u (subst (λ (x : World). Meets x e r u) (one-course w es rs v c .1) m)
 
--- Of two programs, or of one that runs twice: the same calls from the same world get the same answers and leave the same world.
+-- Of two programs, or of one that runs twice: the same calls from the same world get the same answers and leave the
+-- same world.
 pub same-course : (w : World) (es : List Event) (rs ts : Answers es) (v u : World) → Course w es rs v → Course w es ts u → (rs ≡ ts) × (v ≡ u)
 same-course w es rs ts v u c d =
     let first = one-course w es rs v c in
@@ -98,7 +99,8 @@ same-start q r t w u m n same =
 pub course-start : (q : Setup) (r : Started) (w : World) → SetupMeets q r w → Start w
 course-start q r w m = record { given = q; state = m .handed-on ∙ ap (λ (x : Started). x .state) (m .answered); room = m .room }
 
--- What `rules` proves of every past is so of every course from a setup on, here that the state stays valid and the storage keeps its size.
+-- What `rules` proves of every past is so of every course from a setup on, here that the state stays valid and the
+-- storage keeps its size.
 pub course-sound : (q : Setup) (r : Started) (w : World) → SetupMeets q r w → (es : List Event) (rs : Answers es) (v : World) → Course w es rs v → Sound v
 course-sound q r w m es rs v c = subst Sound (sym (one-course w es rs v c .1)) (past-sound w (course-start q r w m) es)
 

@@ -1,8 +1,10 @@
--- The user's three demands, clause by clause, each as a statement about every program whose calls meet the public contracts (Course.antt).
--- The words that they are written in stand in `rules`: Past, Accepted and Join (safety), Delivery, AlivePast. Proved in Kept.antt.
+-- The user's three demands, clause by clause, each as a statement about every program whose calls meet the public
+-- contracts (Course.antt). The words that they are written in stand in `rules`: Past, Accepted and Join (safety),
+-- Delivery, AlivePast. Proved in Kept.antt.
 --
--- Of demand 1, "Nothing is read or written outside what was lent, and every call ends" is what the proof of every function shows, contract or
--- not; of demand 2, that header, number check and cut are the paper's is shown beside their definitions, in `header`, `ring` and `cut`.
+-- Of demand 1, "Nothing is read or written outside what was lent, and every call ends" is what the proof of every
+-- function shows, contract or not; of demand 2, that header, number check and cut are the paper's is shown beside their
+-- definitions, in `header`, `ring` and `cut`.
 use Prim.Native.Nat.{ℕ, _<_}
 use mathlib.Core.Path.{_≡_}
 use mathlib.Core.Logic.{_≢_}
@@ -62,8 +64,9 @@ rowsOf w (alive packet) = aliveRows (w .state) packet
 rowsOf w (clock now) = clockRows (w .state) now
 rowsOf w (aside question) = questionRows (w .state)
 
--- "Bad input meets the numbered refusal that the papers fix": of the number that was answered, that it is a refusal's and k, exactly if the row of
--- k is the first that applies. "returns: nothing more", and "A refusal changes neither the state nor one octet of lent memory": what then is left.
+-- "Bad input meets the numbered refusal that the papers fix": of the number that was answered, that it is a refusal's
+-- and k, exactly if the row of k is the first that applies. "returns: nothing more", and "A refusal changes neither the
+-- state nor one octet of lent memory": what then is left.
 pub record Refuses (table : List Row) (number : ℕ) (left : ℕ → Type 0) : Type 0 where
   pub only-if : (k : ℕ) → RefusedAs number k → rows.Given table k
   pub if-first : (k : ℕ) → rows.Given table k → RefusedAs number k
@@ -84,8 +87,8 @@ abbrev pub CutterRefuses : Type 0
 CutterRefuses = (g : Given) (m : List ℕ) (u c : ℕ) (buffer : List ℕ) (r : Cutting) (left : List ℕ) → CutterMeets g m u c buffer r left
     → Refuses (row 23 (not (cuts g m u c (length buffer))) ∷ []) (cutterTold r .number) (λ k. (cutterTold r .length ≡ 0) × (left ≡ buffer))
 
--- A number is told by one case of an answer alone, since a refusal has one of 9 or more: what is said here of numbers and values is said of the
--- answers (`one-answer`, `one-call` and `one-missing` of `answers`).
+-- A number is told by one case of an answer alone, since a refusal has one of 9 or more: what is said here of numbers
+-- and values is said of the answers (`one-answer`, `one-call` and `one-missing` of `answers`).
 abbrev pub Tells : (e : Event) → Said e → Type 0
 Tells (message packet) r = OutcomeTells (r .0 .outcome)
 Tells (alive packet) r = CallTells (r .call)
@@ -127,8 +130,9 @@ pub record AnyOrder (m : Sent) (order : List ℕ) (last : ℕ) : Type 0 where
   pub missing : ¬ (List·Memᴰ last order)
   pub others : (c : ℕ) → Numbered m c → c ≢ last → List·Memᴰ c order
 
--- "Cut by our sender and joined by our receiver, a message of 0 to 16,384 octets comes back the same": with any header values and any u that the
--- cutter takes, at a receiver set up with that sender. `Words` says that the values are of their types.
+-- "Cut by our sender and joined by our receiver, a message of 0 to 16,384 octets comes back the same": with any header
+-- values and any u that the cutter takes, at a receiver set up with that sender. `Words` says that the values are of
+-- their types.
 abbrev pub ComesBack : Type 0
 ComesBack = (q : Setup) (r : Started) (w : World) → SetupMeets q r w
     → (g : Given) → Words g → (octets : List ℕ) (u : ℕ)
@@ -147,9 +151,10 @@ WhoIsAlive = AfterPast (λ w es rs v. (i : ℕ) → i < w .state .count
 
 -- ---- demand 3
 
--- "Let a receiver have any past at all … Now a registered sender's message arrives in its pieces, cut by the rules, in any order and some of
--- them more than once, with other senders' packets between. If …, then it is delivered once, octet for octet, at the arrival of the last
--- missing piece." Every other arrival of a piece is stored, or refused with 20, or, if the version is not 0, with 17: one of the cases applies.
+-- "Let a receiver have any past at all … Now a registered sender's message arrives in its pieces, cut by the rules, in
+-- any order and some of them more than once, with other senders' packets between. If …, then it is delivered once,
+-- octet for octet, at the arrival of the last missing piece." Every other arrival of a piece is stored, or refused with
+-- 20, or, if the version is not 0, with 17: one of the cases applies.
 abbrev pub DeliveredOnce : Type 0
 DeliveredOnce = AfterPast (λ w past rs v. (m : Sent) (i : ℕ) → May m i past v
     → (es : List Event) (ts : Answers es) (u : World) → Course v es ts u → Between (OnlyPieces m) m i v es
@@ -157,8 +162,8 @@ DeliveredOnce = AfterPast (λ w past rs v. (m : Sent) (i : ℕ) → May m i past
     → Arrives m (verdictFor (v .state .n1) m (senderAt (v .state) i .last)) es c (r .0 .outcome) (r .1)
     × (m .version .0 ≢ 0 → Once m es (r .0 .outcome)) × OneApplies m es c)
 
--- "Whether or not those conditions hold, nothing is ever delivered but a join of pieces accepted since that message last opened, one for each
--- piece number."
+-- "Whether or not those conditions hold, nothing is ever delivered but a join of pieces accepted since that message
+-- last opened, one for each piece number."
 abbrev pub Safety : Type 0
 Safety = AfterPast (λ w es rs v. (packet : List ℕ) (r : Said (message packet)) (u : World) → Meets v (message packet) r u
     → messageTold (r .0) .outcome .number ≡ 1
@@ -166,7 +171,8 @@ Safety = AfterPast (λ w es rs v. (packet : List ℕ) (r : Said (message packet)
 
 -- ---- uniqueness, and the edges
 
--- "Uniqueness is itself proved": of two programs, or of one that runs twice, the same calls get the same answers and leave the same world,
+-- "Uniqueness is itself proved": of two programs, or of one that runs twice, the same calls get the same answers and
+-- leave the same world,
 abbrev pub OneCourse : Type 0
 OneCourse = (w : World) (es : List Event) (rs ts : Answers es) (v u : World) → Course w es rs v → Course w es ts u → (rs ≡ ts) × (v ≡ u)
 

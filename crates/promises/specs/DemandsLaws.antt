@@ -1,4 +1,5 @@
--- The demands, proved: every course is the one that `rules` speaks of, and of that one `rules` has proved them. Assumes nothing.
+-- The demands, proved: every course is the one that `rules` speaks of, and of that one `rules` has proved them. Assumes
+-- nothing.
 use Prim.Native.Nat.{ℕ, _+_, _*_, _≤_}
 use mathlib.Core.Path.{_≡_, refl, sym, ap, subst, _∙_}
 use mathlib.Core.Logic.{_≢_, _⊎_, inl, inr}

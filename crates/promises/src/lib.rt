@@ -1,7 +1,9 @@
-// Each public call once more, to tie its contract to the courses of specs/Course.antt: that it is a call of a course is shown from nothing
-// but the contract of the function that it calls. A weaker contract would be refused here. No program calls these functions.
+// Each public call once more, to tie its contract to the courses of specs/Course.antt: that it is a call of a course is
+// shown from nothing but the contract of the function that it calls. A weaker contract would be refused here. No
+// program calls these functions.
 //
-// The first equations of each contract are those of the call itself. A call that is lent no storage leaves any storage as it is.
+// The first equations of each contract are those of the call itself. A call that is lent no storage leaves any storage
+// as it is.
 ghost use mathlib.Core.Path.{_≡_};
 ghost use mathlib.Core.List.{List};
 ghost use Prim.Native.Nat.{ℕ, _*_};

@@ -1,4 +1,5 @@
-// The message call. One function holds the state: it finds the sender's place, copies that one record out, and puts it back.
+// The message call. One function holds the state: it finds the sender's place, copies that one record out, and puts it
+// back.
 ghost use mathlib.Core.Path.{_≡_};
 ghost use mathlib.Core.Bool.{true};
 ghost use Prim.Native.Nat.{_+_, _<_};

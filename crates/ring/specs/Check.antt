@@ -1,4 +1,5 @@
--- The number check (D.3.1.3): 01's four rules, in their order. n1 is N1, rv and r are RV and R, v and s are V_SEQ and SEQ.
+-- The number check (D.3.1.3): 01's four rules, in their order. n1 is N1, rv and r are RV and R, v and s are V_SEQ and
+-- SEQ.
 use mathlib.Core.Path.{_≡_}
 use mathlib.Core.Logic.{_≢_}
 use Prim.Native.Nat.{ℕ, _-_, _≤_, _<_}
@@ -10,7 +11,8 @@ use Rattle.ring.specs.declared.Verdict.{Verdict}
 use Rattle.ring.specs.declared.Verdict.the-variants.{Unchecked, First, Restart, Repeat, Next, Gap}
 use Rattle.ring.specs.Ring.{M, back, skipped}
 
--- "4. Let d be the remainder of R − SEQ by M, 0 to M − 1. d < N1: repeat. d = M − 1: next. Otherwise gap, with (SEQ − R − 1) modulo M numbers skipped."
+-- "4. Let d be the remainder of R − SEQ by M, 0 to M − 1. d < N1: repeat. d = M − 1: next. Otherwise gap, with (SEQ − R
+-- − 1) modulo M numbers skipped."
 unfoldable pub rule4 : ℕ → Number → Number → Verdict
 rule4 n1 r s = cond (ltb (back r s) n1) Repeat (cond (eqb (back r s) (M - 1)) Next (Gap (skipped r s)))
 
@@ -24,8 +26,8 @@ check n1 rv r v s =
 abbrev pub Free : Version → Number → Type 0
 Free v s = (v .0 ≡ 0) × (s .0 ≡ 1)
 
--- The four rules as they are printed, "in this order": each applies where none before it does. The check says this and nothing else
--- (`says-check`, `says-only`).
+-- The four rules as they are printed, "in this order": each applies where none before it does. The check says this and
+-- nothing else (`says-check`, `says-only`).
 pub data Says (n1 : ℕ) (rv : Version) (r : Number) (v : Version) (s : Number) : Verdict → Type 0 where
   rule-1 : Free v s → Says n1 rv r v s Unchecked
   rule-2 : ¬ (Free v s) → rv .0 ≡ 0 → Says n1 rv r v s First

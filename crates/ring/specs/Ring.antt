@@ -16,7 +16,8 @@ pub record OnRing (x : ℕ) : Type 0 where
 abbrev pub isNumber : ℕ → Bool
 isNumber x = leb 1 x && leb x M
 
--- The remainder of a − b by M, 0 to M − 1. M is added before b's remainder is taken away, so that no difference falls below 0.
+-- The remainder of a − b by M, 0 to M − 1. M is added before b's remainder is taken away, so that no difference falls
+-- below 0.
 unfoldable pub remainder : ℕ → ℕ → ℕ
 remainder a b = (a % M + (M - b % M)) % M
 

@@ -1,4 +1,5 @@
--- Table 14 of ADP R3.0 as it is printed in 001, and that rule 4 is this table for R and SEQ 1 to M and N1 1 to 1,024. Assumes nothing.
+-- Table 14 of ADP R3.0 as it is printed in 001, and that rule 4 is this table for R and SEQ 1 to M and N1 1 to 1,024.
+-- Assumes nothing.
 use mathlib.Core.Path.{_≡_}
 use mathlib.Core.Logic.{_≢_, ⊎-elim}
 use mathlib.Core.Bool.{Bool, true, false, cond, not, _&&_, _||_}

@@ -1,5 +1,5 @@
-// One sender's record: what it makes of a PDU whose header is in order. The numbers 15 to 20, and opening, adding, dropping and
-// delivering.
+// One sender's record: what it makes of a PDU whose header is in order. The numbers 15 to 20, and opening, adding,
+// dropping and delivering.
 //
 // Every public function is total: the record need not be within its limits.
 ghost use mathlib.Core.Path.{_≡_};

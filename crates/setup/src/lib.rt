@@ -55,7 +55,8 @@ fn settled(q: Setup, within: bool) -> Receiver
     state
 }
 
-// Both answers' states come out of one loop: a state that is built in two places is copied field by field wherever it goes.
+// Both answers' states come out of one loop: a state that is built in two places is copied field by field wherever it
+// goes.
 fn new_state(q: Setup, within: bool) -> Receiver
     requires { ⌜ (within ≡ true → q .count ≤ sendersMost) ⌝ }
     ensures { λ r. ⌜ r ≡ cond within (setupState q) emptyReceiver ⌝ }

@@ -1,5 +1,5 @@
--- What an alive signal says behind its ADP header (5.3, Table 8), as far as 01 looks at it: "other places of the alive header may
--- hold anything".
+-- What an alive signal says behind its ADP header (5.3, Table 8), as far as 01 looks at it: "other places of the alive
+-- header may hold anything".
 use mathlib.Core.Bool.{Bool, _&&_}
 use mathlib.Core.List.{List}
 use Prim.Native.Nat.{ℕ, _%_}

@@ -1,6 +1,6 @@
--- The places of the alive header (5.3, Table 8), counted from the start of the PDU: the one table. All else uses only what is
--- proved of it here: together with the ADP header's places no two overlap, each ends by 128, and they cover all 128.
--- docs/HEADER.md says where each comes from.
+-- The places of the alive header (5.3, Table 8), counted from the start of the PDU: the one table. All else uses only
+-- what is proved of it here: together with the ADP header's places no two overlap, each ends by 128, and they cover all
+-- 128. docs/HEADER.md says where each comes from.
 use mathlib.Core.Path.{_≡_, refl}
 use mathlib.Core.Bool.{true}
 use mathlib.Core.List.{List, [], _∷_, _++_}

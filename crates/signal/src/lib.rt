@@ -1,4 +1,5 @@
-// The alive header (5.3, Table 8), which stands behind the ADP header of an alive signal: what 01 looks at, read by value.
+// The alive header (5.3, Table 8), which stands behind the ADP header of an alive signal: what 01 looks at, read by
+// value.
 //
 // Every function is total. An octet past the end of a packet reads as 0.
 ghost use mathlib.Core.Path.{_≡_};

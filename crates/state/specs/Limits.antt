@@ -1,6 +1,6 @@
--- Number 9: "a state with a setting, sender, time, last number, open SEQ or open code outside this paper's limits, a stamp after
--- the clock, last number 0 under a version not 0, or an open message with an impossible cut or a map that is empty, full or
--- marked past TBN".
+-- Number 9: "a state with a setting, sender, time, last number, open SEQ or open code outside this paper's limits, a
+-- stamp after the clock, last number 0 under a version not 0, or an open message with an impossible cut or a map that
+-- is empty, full or marked past TBN".
 use Prim.Native.Nat.{ℕ, zero, suc}
 use mathlib.Core.Bool.{Bool, true, not, _&&_, _||_}
 use mathlib.Core.List.{List}

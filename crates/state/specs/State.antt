@@ -19,7 +19,8 @@ sendersMost = 16
 abbrev pub noLast : Last
 noLast = record { version = record { 0 = 0 }; number = record { 0 = 0 } }
 
--- "The record of a message not open, the stamp and al_tm_out of a sender not alive, and places past the senders are written 0"
+-- "The record of a message not open, the stamp and al_tm_out of a sender not alive, and places past the senders are
+-- written 0"
 abbrev pub noMessage : Message
 noMessage = record { version = record { 0 = 0 }; number = record { 0 = 0 }; tcd = 0; n = 0; tbn = 0; u = 0; map = 0; stamp = 0 }
 
@@ -69,7 +70,8 @@ emptyReceiver = stateOf (record { test = false; n1 = 1; t = 1; count = 0 }) 0 (r
 abbrev pub withSenders : Receiver → List Sender → Receiver
 withSenders w l = stateOf (settingsFrom w) (w .clock) l
 
--- A sender's record with another message, open or not; heard at another time, alive or not; with another last version and number.
+-- A sender's record with another message, open or not; heard at another time, alive or not; with another last version
+-- and number.
 abbrev pub withMessage : Sender → Bool → Message → Sender
 withMessage s now-open m = record { address = s .address; last = s .last; «open» = now-open; message = m; alive = s .alive; heard = s .heard }
 

@@ -21,6 +21,7 @@ find l a k = firstWhere (λ s. sameAddress (s .address) a) l k
 abbrev pub found : Receiver → Head → ℕ
 found w h = find (w .senders) (source h) (w .count)
 
--- What one pass over the table finds: whether the state is within its limits, and the place, which is looked for where it is.
+-- What one pass over the table finds: whether the state is within its limits, and the place, which is looked for where
+-- it is.
 unfoldable pub lookAt : Receiver → Address → Look
 lookAt w a = record { valid = valid w; at = cond (valid w) (find (w .senders) a (w .count)) 0 }

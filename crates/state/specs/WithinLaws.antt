@@ -1,5 +1,5 @@
--- Laws of the limits, taken apart and put together: what number 9 looks at in an open message, in a sender, at each place of the
--- table and in the whole state, and what keeps a table within its limits. Assumes nothing.
+-- Laws of the limits, taken apart and put together: what number 9 looks at in an open message, in a sender, at each
+-- place of the table and in the whole state, and what keeps a table within its limits. Assumes nothing.
 use mathlib.Core.Path.{_≡_, refl, sym, ap, subst, _∙_}
 use mathlib.Core.Logic.{_≢_, ⊎-elim}
 use mathlib.Core.Bool.{Bool, true, false, not, _&&_, _||_, false≢true}
@@ -26,8 +26,8 @@ use Rattle.state.specs.State.{noSender, senderAt}
 
 -- ---- an open message
 
--- Neither "open SEQ or open code outside this paper's limits, a stamp after the clock" nor "an impossible cut or a map that is empty,
--- full or marked past TBN".
+-- Neither "open SEQ or open code outside this paper's limits, a stamp after the clock" nor "an impossible cut or a map
+-- that is empty, full or marked past TBN".
 pub record MessageWithin (clock : ℕ) (m : Message) : Type 0 where
   pub number : isNumber (m .number .0) ≡ true
   pub code : isUser (m .tcd) ≡ true
@@ -156,7 +156,8 @@ senders-there clock l (suc k) e = ⊎-elim
 
 -- ---- what keeps a table within its limits
 
--- The record t may follow the record s: the address is the same, and if s is within its limits at the time c, t is at the time d.
+-- The record t may follow the record s: the address is the same, and if s is within its limits at the time c, t is at
+-- the time d.
 pub record Stays (c d : ℕ) (s t : Sender) : Type 0 where
   pub address : t .address ≡ s .address
   pub within : SenderWithin c s → SenderWithin d t

@@ -1,5 +1,5 @@
-// The receiver's state: its types, its constructor and its limits (number 9), and the table of senders. What every call does to it
-// is said in `rules`, as definitions; the functions that do it stand in the crates above.
+// The receiver's state: its types, its constructor and its limits (number 9), and the table of senders. What every call
+// does to it is said in `rules`, as definitions; the functions that do it stand in the crates above.
 //
 // What is not open, not alive or past the senders is written 0 and never looked at.
 ghost use mathlib.Core.Path.{_≡_};
@@ -27,7 +27,8 @@ pub struct Last {
     pub number: Number,
 }
 
-// An open message: piece c is held where bit c - 1 of the map is set, bit 0 lowest; the stamp is the clock at its newest piece.
+// An open message: piece c is held where bit c - 1 of the map is set, bit 0 lowest; the stamp is the clock at its
+// newest piece.
 pub struct Message {
     pub version: Version,
     pub number: Number,
@@ -51,7 +52,8 @@ pub struct Address {
     pub node: Node,
 }
 
-// The two flags stand together: apart, between larger fields, each would cost one move more for every sender where a state is copied.
+// The two flags stand together: apart, between larger fields, each would cost one move more for every sender where a
+// state is copied.
 pub struct Sender {
     pub address: Address,
     pub open: bool,
@@ -102,7 +104,8 @@ impl Address {
         (self.field.0 == other.field.0) & (self.node.0 == other.node.0)
     }
 
-    // The address as one number, so that an address is compared with those before it at once, and these are lent, not copied.
+    // The address as one number, so that an address is compared with those before it at once, and these are lent, not
+    // copied.
     fn key(self) -> u32
         ensures { λ r. ⌜ (r ≡ keyOf self) × Narrow self ⌝ }
     {
@@ -287,8 +290,8 @@ impl Receiver {
             & ((0 < self.count) | (!self.test & (self.n1 == 1) & (self.t == 1)))
     }
 
-    // One pass over the table, for the calls that need both: whether the state is within its limits, and if it is, at which place
-    // the sender with this address stands; the count if none has it.
+    // One pass over the table, for the calls that need both: whether the state is within its limits, and if it is, at
+    // which place the sender with this address stands; the count if none has it.
     pub fn look(self, a: Address) -> Look
         ensures { λ r. ⌜ r ≡ lookAt self a ⌝ }
     {
@@ -330,7 +333,8 @@ impl Look {
         at: 0,
     };
 
-    // The place that was found, once the sender at place i was looked at too; how many were looked at if it was none of them.
+    // The place that was found, once the sender at place i was looked at too; how many were looked at if it was none of
+    // them.
     fn next_place(at: u8, i: u8, here: bool) -> u8
         requires { ⌜ i < sendersMost ⌝ }
         ensures { λ r. ⌜ r ≡ cond (ltb at i) at (cond here i (i + 1)) ⌝ }

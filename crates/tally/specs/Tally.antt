@@ -1,5 +1,5 @@
--- The maintenance tally: "one record of the caller's, counted up where it stands: one count of answers 0 and 1, one of refusals, each stopping
--- at 4,294,967,295."
+-- The maintenance tally: "one record of the caller's, counted up where it stands: one count of answers 0 and 1, one of
+-- refusals, each stopping at 4,294,967,295."
 use Prim.Native.Nat.{ℕ, _+_, min}
 use mathlib.Core.Path.{_≡_}
 use mathlib.Core.Bool.{cond}

@@ -65,7 +65,8 @@ refusals-counted (Refused k ∷ os) t h = refusals-counted os (counted t (Refuse
 refusals-counted (Stored ∷ os) t h = refusals-counted os (counted t Stored) h
 refusals-counted (Delivered v ∷ os) t h = refusals-counted os (counted t (Delivered v)) h
 
--- Each call is counted once: while neither count stands where it stops, the two have grown by as many as there were calls.
+-- Each call is counted once: while neither count stands where it stops, the two have grown by as many as there were
+-- calls.
 pub among-all : (os : List Outcome) → answersAmong os + refusalsAmong os ≡ length os
 unfolding answersAmong refusalsAmong
 among-all [] = refl

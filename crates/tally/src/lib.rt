@@ -1,7 +1,9 @@
-// The maintenance tally: "one record of the caller's, counted up where it stands", in a thin layer above the message call.
+// The maintenance tally: "one record of the caller's, counted up where it stands", in a thin layer above the message
+// call.
 //
-// The record is lent by `&mut`, so `message` is proved by a walk by hand. All the work is in functions that need none: the call is the
-// receiver's, and the counting is `counted`, by value. Any record, any state, any storage and any octets may come.
+// The record is lent by `&mut`, so `message` is proved by a walk by hand. All the work is in functions that need none:
+// the call is the receiver's, and the counting is `counted`, by value. Any record, any state, any storage and any
+// octets may come.
 ghost use mathlib.Core.Path.{_≡_};
 ghost use Prim.Native.Nat.{_+_};
 ghost use lib.ListN.{length};

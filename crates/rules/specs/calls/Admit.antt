@@ -1,5 +1,5 @@
--- What one sender's record makes of a PDU that has come as far as its sender: the numbers 15 to 20, and what an admitted PDU does
--- (D.4.4; "we follow the prose").
+-- What one sender's record makes of a PDU that has come as far as its sender: the numbers 15 to 20, and what an
+-- admitted PDU does (D.4.4; "we follow the prose").
 use Prim.Native.Nat.{ℕ}
 use mathlib.Core.Bool.{Bool, true, false, not, cond, _&&_, _||_}
 use mathlib.Core.List.{List, [], _∷_}
@@ -75,8 +75,8 @@ fills s h = isFull (mapAfter s h) (h .cut .tbn)
 abbrev pub noneDropped : Dropped
 noneDropped = record { version = record { 0 = 0 }; number = record { 0 = 0 } }
 
--- "Another version than the open one, or the same version and a larger number: the open message is dropped, its version and number stand
--- in the answer (both 0 if none …)"
+-- "Another version than the open one, or the same version and a larger number: the open message is dropped, its version
+-- and number stand in the answer (both 0 if none …)"
 unfoldable pub droppedBy : Sender → Head → Dropped
 droppedBy s h =
     cond (s .«open» && (not (sameVersion s h) || (sameVersion s h && newer (h .given .number) (s .message .number))))
@@ -91,7 +91,8 @@ lastBy v s h = cond (isUnchecked v) (s .last) (record { version = h .given .vers
 abbrev pub closed : Sender → Last → Sender
 closed s l = withLast (withMessage s false noMessage) l
 
--- "kept with V_SEQ, SEQ, TCD, n, TBN, u and a 64-bit map of pieces held"; "A fragment that is stored sets the message's stamp to the clock."
+-- "kept with V_SEQ, SEQ, TCD, n, TBN, u and a 64-bit map of pieces held"; "A fragment that is stored sets the message's
+-- stamp to the clock."
 abbrev pub messageOf : ℕ → ℕ → Head → Message
 messageOf clock map h = record {
   version = h .given .version;

@@ -24,8 +24,8 @@ use Rattle.answers.specs.Told.{refusedNumber}
 use Rattle.rules.specs.calls.First.{first}
 use Rattle.rules.specs.calls.FirstLaws.{first-none}
 
--- An admitted PDU has a possible cut, is no repeat, is not older than the open message, has its cut if it belongs to it, and
--- is a new piece of it.
+-- An admitted PDU has a possible cut, is no repeat, is not older than the open message, has its cut if it belongs to
+-- it, and is a new piece of it.
 pub record Admitted (n1 : ℕ) (s : Sender) (h : Head) : Type 0 where
   pub cut-possible : possible (h .cut) ≡ true
   pub no-repeat : isRepeat (verdictOf n1 s h) ≡ false

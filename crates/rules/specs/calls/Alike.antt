@@ -1,5 +1,6 @@
--- "The record of a message not open, the stamp and al_tm_out of a sender not alive, and places past the senders are written 0 and
--- never looked at." What is looked at, when two states and two answers are alike in it, and when the rest is 0.
+-- "The record of a message not open, the stamp and al_tm_out of a sender not alive, and places past the senders are
+-- written 0 and never looked at." What is looked at, when two states and two answers are alike in it, and when the rest
+-- is 0.
 use mathlib.Core.Path.{_≡_}
 use mathlib.Core.Bool.{cond}
 use Prim.Native.Nat.{ℕ, _≤_, _<_}
@@ -10,7 +11,8 @@ use Rattle.answers.specs.declared.Noted.{Noted}
 use Rattle.answers.specs.declared.Ticked.{Ticked}
 use Rattle.state.specs.State.{noMessage, noHeard, noSender, senderAt, settingsFrom, withMessage, withHeard}
 
--- What is looked at of a sender: not "the record of a message not open", nor "the stamp and al_tm_out of a sender not alive".
+-- What is looked at of a sender: not "the record of a message not open", nor "the stamp and al_tm_out of a sender not
+-- alive".
 unfoldable pub seen : Sender → Sender
 seen s =
     let message = cond (s .«open») (s .message) noMessage in
@@ -25,7 +27,8 @@ pub record Alike (w v : Receiver) : Type 0 where
   pub same-clock : w .clock ≡ v .clock
   pub same-seen : (k : ℕ) → k < w .count → seen (senderAt w k) ≡ seen (senderAt v k)
 
--- Two answers that say the same and leave states that are alike: of the message call, the alive call and the clock call.
+-- Two answers that say the same and leave states that are alike: of the message call, the alive call and the clock
+-- call.
 pub record AlikeAnswer (a b : Answer) : Type 0 where
   pub same-outcome : a .outcome ≡ b .outcome
   pub same-held : a .held ≡ b .held
@@ -45,8 +48,8 @@ pub record AlikeTicked (a b : Ticked) : Type 0 where
 
 -- ---- "are written 0"
 
--- A state in which all that is not looked at is 0: "The record of a message not open, the stamp and al_tm_out of a sender not
--- alive", "and places past the senders".
+-- A state in which all that is not looked at is 0: "The record of a message not open, the stamp and al_tm_out of a
+-- sender not alive", "and places past the senders".
 pub record Zeroed (w : Receiver) : Type 0 where
   pub sender-zero : (k : ℕ) → k < w .count → seen (senderAt w k) ≡ senderAt w k
   pub past-zero : (k : ℕ) → w .count ≤ k → senderAt w k ≡ noSender

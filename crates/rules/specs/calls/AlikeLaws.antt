@@ -1,4 +1,5 @@
--- "… and never looked at": states that are alike in what is looked at get the same answers and stay alike. Assumes nothing.
+-- "… and never looked at": states that are alike in what is looked at get the same answers and stay alike. Assumes
+-- nothing.
 use mathlib.Core.Path.{_≡_, refl, sym, ap, _∙_, subst}
 use mathlib.Core.Logic.{_≢_, ⊎-elim}
 use mathlib.Core.Bool.{Bool, true, false, not, cond}

@@ -1,5 +1,5 @@
--- The alive call: "An alive PDU is 128 to 1,472 octets, its length equal to BSIZE and ML, CBN = TBN = 1, code 60,003, group 0, layout
--- by 5.3. … No number check."
+-- The alive call: "An alive PDU is 128 to 1,472 octets, its length equal to BSIZE and ML, CBN = TBN = 1, code 60,003,
+-- group 0, layout by 5.3. … No number check."
 use Prim.Native.Nat.{ℕ}
 use mathlib.Core.Bool.{Bool, true, false, not, cond, _&&_}
 use mathlib.Core.List.{List, [], _∷_}
@@ -27,8 +27,8 @@ use Rattle.state.specs.State.{senderAt, noHeard, withHeard}
 abbrev pub aliveLengthWrong : ℕ → Head → Bool
 aliveLengthWrong = lengthOutside aliveSize mostAlivePdu
 
--- "13: a fixed field of 5.1, PRI, MODE, code, or SEQ (…; not looked at in alive signals) out of range"; "Code in 13 means … in an
--- alive signal not 60,003."
+-- "13: a fixed field of 5.1, PRI, MODE, code, or SEQ (…; not looked at in alive signals) out of range"; "Code in 13
+-- means … in an alive signal not 60,003."
 unfoldable pub aliveHeadWithin : List ℕ → Head → Bool
 aliveHeadWithin packet h = commonWithin packet h && isAlive (h .given .tcd)
 

@@ -1,5 +1,6 @@
--- What a message call changes: "A piece of several changes exactly its p octets in its sender's area.", "A message of one piece is
--- delivered at once and storage is untouched.", and of the state no other sender's record. Assumes nothing.
+-- What a message call changes: "A piece of several changes exactly its p octets in its sender's area.", "A message of
+-- one piece is delivered at once and storage is untouched.", and of the state no other sender's record. Assumes
+-- nothing.
 use mathlib.Core.Path.{_≡_, refl, _∙_}
 use mathlib.Core.Logic.{_≢_, _⊎_, inl, inr, ⊎-elim}
 use mathlib.Core.List.{List}

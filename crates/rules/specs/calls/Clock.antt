@@ -20,7 +20,8 @@ clockRows w ms = row 9 (not (valid w)) ∷ row 21 (ltb ms (w .clock) || ltb cloc
 abbrev pub drops : ℕ → ℕ → Sender → Bool
 drops t ms s = s .«open» && leb t (ms - s .message .stamp)
 
--- "and calls dead each alive sender whose age is al_tm_out or more", which is in seconds; "al_tm_out 0 is dead at the next clock call."
+-- "and calls dead each alive sender whose age is al_tm_out or more", which is in seconds; "al_tm_out 0 is dead at the
+-- next clock call."
 abbrev pub dies : ℕ → Sender → Bool
 dies ms s = s .alive && leb (1000 * s .heard .timeout) (ms - s .heard .stamp)
 

@@ -1,8 +1,8 @@
--- "given exactly when": each call gives a number if and only if the number's row applies and no row before it does, on arbitrary
--- arguments; and "A refusal alters no state, stamp, clock, storage or buffer." Assumes nothing.
+-- "given exactly when": each call gives a number if and only if the number's row applies and no row before it does, on
+-- arbitrary arguments; and "A refusal alters no state, stamp, clock, storage or buffer." Assumes nothing.
 --
--- For each call, `…-refuses` says what is answered where a number is given, whole, `…-given` that it is told nowhere else, and `…-tells` that
--- no other answer is told like the call's own.
+-- For each call, `…-refuses` says what is answered where a number is given, whole, `…-given` that it is told nowhere
+-- else, and `…-tells` that no other answer is told like the call's own.
 use mathlib.Core.Path.{_≡_, refl, sym, _∙_}
 use mathlib.Core.Bool.{Bool, true, false, cond}
 use mathlib.Core.List.{List}
@@ -36,7 +36,8 @@ use Rattle.state.specs.State.{senderAt, emptyReceiver}
 
 -- ---- for every call
 
--- An answer that is made by the first of some rows, all with a refusal's number: `yes` where none applies, and `no k` where k is given.
+-- An answer that is made by the first of some rows, all with a refusal's number: `yes` where none applies, and `no k`
+-- where k is given.
 module _ {A : Type 0} (rs : List Row) (n : above 8 rs ≡ true) (yes : A) (no : ℕ → A) where
   abbrev Answer-by : A
   Answer-by = cond (eqb (first rs) 0) yes (no (first rs))

@@ -1,5 +1,5 @@
--- "The lowest number that applies is given": the rows of a table of numbers in the order in which they are tried, the first
--- whose condition holds.
+-- "The lowest number that applies is given": the rows of a table of numbers in the order in which they are tried, the
+-- first whose condition holds.
 use Prim.Native.Nat.{ℕ}
 use mathlib.Core.Path.{_≡_}
 use mathlib.Core.Logic.{_⊎_}

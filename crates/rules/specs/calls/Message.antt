@@ -1,4 +1,5 @@
--- The message call: its numbers in the order in which they are tried, and what an admitted PDU does to state and storage.
+-- The message call: its numbers in the order in which they are tried, and what an admitted PDU does to state and
+-- storage.
 use Prim.Native.Nat.{ℕ, _+_, _*_}
 use mathlib.Core.Bool.{Bool, not, cond, _&&_}
 use mathlib.Core.List.{List, [], _∷_, _++_}
@@ -65,7 +66,8 @@ messageNumber w room packet = first (messageRows w room packet)
 
 -- ---- what an admitted PDU does
 
--- "A piece of several changes exactly its p octets in its sender's area." "A message of one piece is delivered at once and storage is untouched."
+-- "A piece of several changes exactly its p octets in its sender's area." "A message of one piece is delivered at once
+-- and storage is untouched."
 unfoldable pub storageAfter : List ℕ → ℕ → Head → List ℕ → List ℕ
 storageAfter storage i h packet =
     cond (eqb (h .cut .tbn) 1) storage (laid storage (i * area + ownPlace (h .cut)) (run headerSize (ownLength (h .cut)) packet))

@@ -1,4 +1,5 @@
--- "The message is handed over as a part of the packet or of the storage, never copied out; any other answer gives an empty part."
+-- "The message is handed over as a part of the packet or of the storage, never copied out; any other answer gives an
+-- empty part."
 use Prim.Native.Nat.{ℕ, _+_}
 use mathlib.Core.Bool.{cond}
 use mathlib.Core.List.{List, []}

@@ -1,5 +1,5 @@
--- "One question: of the first sender in table order with an open message, which piece is its lowest missing one? The answer is
--- sender and piece, or "none open"."
+-- "One question: of the first sender in table order with an open message, which piece is its lowest missing one? The
+-- answer is sender and piece, or "none open"."
 use Prim.Native.Nat.{ℕ}
 use mathlib.Core.Bool.{not, cond}
 use mathlib.Core.List.{List, [], _∷_}

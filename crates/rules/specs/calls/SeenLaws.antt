@@ -1,5 +1,5 @@
--- What is looked at of one sender: each definition that takes a sender's record looks only at what is `seen` of it, and each change
--- of a record changes only that. Assumes nothing.
+-- What is looked at of one sender: each definition that takes a sender's record looks only at what is `seen` of it, and
+-- each change of a record changes only that. Assumes nothing.
 use mathlib.Core.Path.{_≡_, refl, sym, ap, _∙_}
 use mathlib.Core.Bool.{Bool, true, false, not, cond}
 use Prim.Native.Nat.{ℕ}

@@ -1,5 +1,5 @@
--- Setup: "takes the node's mode (online or test), N1 (1 to 1,024), the drop time T in ms (1 to 600,000) and 1 to 16 senders, each a
--- data field and a node, no pair twice".
+-- Setup: "takes the node's mode (online or test), N1 (1 to 1,024), the drop time T in ms (1 to 600,000) and 1 to 16
+-- senders, each a data field and a node, no pair twice".
 use Prim.Native.Nat.{ℕ, zero, suc}
 use mathlib.Core.Bool.{Bool, cond, _&&_}
 use mathlib.Core.List.{List}

@@ -1,5 +1,5 @@
--- A valid state stays valid: the state that setup returns and the one that every call returns pass 9, so that no past ever meets 9.
--- Assumes nothing.
+-- A valid state stays valid: the state that setup returns and the one that every call returns pass 9, so that no past
+-- ever meets 9. Assumes nothing.
 use mathlib.Core.Path.{_≡_, refl, ap, _∙_}
 use mathlib.Core.Logic.{⊎-elim}
 use mathlib.Core.Bool.{Bool, true, false, not, _&&_, _||_, and-true, false≢true}
@@ -45,7 +45,8 @@ pub empty-valid : valid emptyReceiver ≡ true
 unfolding valid settingsOf sendersWithin
 empty-valid = refl
 
--- "nobody is heard, nothing is open and every last version and number is 0": only the address of a new sender can be outside its limits.
+-- "nobody is heard, nothing is open and every last version and number is 0": only the address of a new sender can be
+-- outside its limits.
 new-within : (clock : ℕ) (a : Address) → senderWithin clock (newSender a) ≡ isAddress a
 unfolding senderWithin lastWithin
 new-within clock a = simp and-true

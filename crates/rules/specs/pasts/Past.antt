@@ -1,5 +1,5 @@
--- "A past is a setup, storage of its right length with any octets in it, and then calls, each given the state and storage that the one
--- before left."
+-- "A past is a setup, storage of its right length with any octets in it, and then calls, each given the state and
+-- storage that the one before left."
 use Prim.Native.Nat.{ℕ, _*_}
 use mathlib.Core.Path.{_≡_}
 use mathlib.Core.List.{List, [], _∷_}

@@ -1,4 +1,5 @@
--- Of every past: the state stays valid, and the storage and the table of senders are of the size that they had. So no past meets 9 or 11.
+-- Of every past: the state stays valid, and the storage and the table of senders are of the size that they had. So no
+-- past meets 9 or 11.
 use Prim.Native.Nat.{ℕ, _*_, _<_}
 use mathlib.Core.Path.{_≡_, refl, sym, ap, subst, _∙_}
 use mathlib.Core.Bool.{Bool, true, false}

@@ -1,5 +1,5 @@
--- Safety: "nothing is ever delivered but a join of pieces accepted since that message last opened, one for each piece number."
--- "Accepted" and "opened" are said by the answers alone.
+-- Safety: "nothing is ever delivered but a join of pieces accepted since that message last opened, one for each piece
+-- number." "Accepted" and "opened" are said by the answers alone.
 use Prim.Native.Nat.{ℕ}
 use mathlib.Core.Path.{_≡_}
 use mathlib.Core.Bool.{Bool, cond, _&&_, _||_}
@@ -22,7 +22,8 @@ isAccepted a = eqb (refusedNumber (a .outcome)) 0
 abbrev pub hasOpened : List ℕ → Answer → Bool
 hasOpened packet a = eqb (a .held) 1 || eqb (headOf packet .cut .tbn) 1
 
--- The packets from an address accepted since its message last opened, the latest first, when one more packet got its answer,
+-- The packets from an address accepted since its message last opened, the latest first, when one more packet got its
+-- answer,
 unfoldable pub acceptedWith : Address → List (List ℕ) → List ℕ → Answer → List (List ℕ)
 acceptedWith a so-far packet answer =
     cond (sameAddress a (source (headOf packet)) && isAccepted answer) (packet ∷ cond (hasOpened packet answer) [] so-far) so-far

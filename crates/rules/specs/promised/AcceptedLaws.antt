@@ -1,5 +1,5 @@
--- What the answers say of a packet is what its sender's record does with it: whether it was accepted, and whether its message opened.
--- Assumes nothing.
+-- What the answers say of a packet is what its sender's record does with it: whether it was accepted, and whether its
+-- message opened. Assumes nothing.
 use Prim.Native.Nat.{ℕ, _+_, _-_, _≤_, _<_}
 use mathlib.Core.Path.{_≡_, refl, sym, ap, _∙_}
 use mathlib.Core.Logic.{_≢_, ⊎-elim}

@@ -1,4 +1,5 @@
--- Who is alive after a past: D.5 with 01's rules, said of the calls since setup alone, in the order of time. No state is looked at.
+-- Who is alive after a past: D.5 with 01's rules, said of the calls since setup alone, in the order of time. No state
+-- is looked at.
 use Prim.Native.Nat.{ℕ, _-_, _*_, _<_}
 use mathlib.Core.Path.{_≡_}
 use mathlib.Core.Bool.{Bool, true, false, not, cond, _&&_, _||_}
@@ -40,8 +41,8 @@ clockTimes t (aside call ∷ es) = clockTimes t es
 
 -- ---- signals
 
--- "An alive PDU is 128 to 1,472 octets, its length equal to BSIZE and ML, CBN = TBN = 1, code 60,003, group 0, layout by 5.3. …", from
--- this address: none of 12, 13 and 22 applies to it. "No number check."
+-- "An alive PDU is 128 to 1,472 octets, its length equal to BSIZE and ML, CBN = TBN = 1, code 60,003, group 0, layout
+-- by 5.3. …", from this address: none of 12, 13 and 22 applies to it. "No number check."
 unfoldable pub isSignal : Address → List ℕ → Bool
 isSignal a packet =
     not (aliveLengthWrong (length packet) (headOf packet)) && aliveHeadWithin packet (headOf packet)
@@ -62,6 +63,6 @@ pub record AliveBy (a : Address) (es : List Event) : Type 0 where
   pub stamped : stamp ≡ timeAfter 0 before
   -- It is the last signal from there: "Modes 2 and 3: dead from then on", and another of mode 1 is stamped anew.
   pub since : (other : List ℕ) → List·Memᴰ (alive other) later → isSignal a other ≡ false
-  -- No clock call called it dead: it "calls dead each alive sender whose age is al_tm_out or more", which is in seconds; "al_tm_out 0 is
-  -- dead at the next clock call."
+  -- No clock call called it dead: it "calls dead each alive sender whose age is al_tm_out or more", which is in
+  -- seconds; "al_tm_out 0 is dead at the next clock call."
   pub young : (now : ℕ) → List·Memᴰ now (clockTimes stamp later) → now - stamp < 1000 * bodyOf packet .timeout

@@ -1,5 +1,5 @@
--- Who is alive after any past is exactly who `AliveBy` says. Each call is first followed for one sender, as far as its being alive
--- goes; what is then left to prove speaks of lists of calls alone. Assumes nothing.
+-- Who is alive after any past is exactly who `AliveBy` says. Each call is first followed for one sender, as far as its
+-- being alive goes; what is then left to prove speaks of lists of calls alone. Assumes nothing.
 use Prim.Native.Nat.{ℕ, _-_, _*_, _<_}
 use mathlib.Core.Path.{_≡_, refl, sym, ap, subst, _∙_}
 use mathlib.Core.Logic.{_⊎_, inl, inr, ⊎-elim}

@@ -1,5 +1,5 @@
--- Whether a packet is a piece, and whether a piece came, is decided by computing; so one of the four cases of an arrival always applies.
--- Assumes nothing.
+-- Whether a packet is a piece, and whether a piece came, is decided by computing; so one of the four cases of an
+-- arrival always applies. Assumes nothing.
 use Prim.Native.Nat.{ℕ, zero, suc, _≤_}
 use mathlib.Core.Path.{_≡_, refl, sym, subst}
 use mathlib.Core.Logic.{_≢_, _⊎_, inl, inr, ⊎-elim, Dec·and}

@@ -1,6 +1,6 @@
--- Delivery: "Let a receiver have any past at all, state and storage handed on untouched. Now a registered sender's message arrives in its
--- pieces, cut by the rules, in any order and some of them more than once, with other senders' packets between." The definitions that the
--- theorem is stated with, each under the words that it renders.
+-- Delivery: "Let a receiver have any past at all, state and storage handed on untouched. Now a registered sender's
+-- message arrives in its pieces, cut by the rules, in any order and some of them more than once, with other senders'
+-- packets between." The definitions that the theorem is stated with, each under the words that it renders.
 use Prim.Native.Nat.{ℕ, _≤_, _<_}
 use mathlib.Core.Path.{_≡_}
 use mathlib.Core.Logic.{_≢_, _⊎_}
@@ -64,8 +64,8 @@ count m = pieces (length (m .octets)) (m .u)
 abbrev pub Numbered : Sent → ℕ → Type 0
 Numbered m c = (1 ≤ c) × (c ≤ count m)
 
--- "its pieces, cut by the rules": a PDU of piece c as any correct cutter could have made it. Neither 12 nor 13 applies to it; what else its
--- header holds is free.
+-- "its pieces, cut by the rules": a PDU of piece c as any correct cutter could have made it. Neither 12 nor 13 applies
+-- to it; what else its header holds is free.
 pub record PieceOf (m : Sent) (c : ℕ) (packet : List ℕ) : Type 0 where
   pub numbered : Numbered m c
   pub from : isFrom (m .address) packet ≡ true
@@ -168,8 +168,8 @@ pub data OneApplies (m : Sent) (es : List Event) (c : ℕ) : Type 0 where
 
 -- ---- what is promised
 
--- "then it is delivered …, octet for octet, at the arrival of the last missing piece": the outcome of the call with the PDU of piece c, and the
--- part that is then handed over. The verdict is what the check gave after the past.
+-- "then it is delivered …, octet for octet, at the arrival of the last missing piece": the outcome of the call with the
+-- PDU of piece c, and the part that is then handed over. The verdict is what the check gave after the past.
 pub record Arrives (m : Sent) (verdict : Verdict) (es : List Event) (c : ℕ) (outcome : Outcome) (part : List ℕ) : Type 0 where
   pub delivered : LastMissing m es c → (outcomeTold outcome ≡ deliveredAs verdict) × (part ≡ m .octets)
   pub stored : OneOfSeveral m es c → outcomeTold outcome ≡ notDelivered 0

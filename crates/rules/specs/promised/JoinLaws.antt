@@ -1,4 +1,5 @@
--- Nothing is delivered but a join of packets accepted since their message opened, one for each piece number. Assumes nothing.
+-- Nothing is delivered but a join of packets accepted since their message opened, one for each piece number. Assumes
+-- nothing.
 use Prim.Native.Nat.{ℕ, suc, _+_, _-_, _*_, _^_, _≤_, _<_}
 use mathlib.Core.Path.{_≡_, refl, sym, ap, subst, _∙_}
 use mathlib.Core.Logic.{_≢_, ⊎-elim}

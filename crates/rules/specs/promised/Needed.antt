@@ -1,5 +1,5 @@
--- The conditions of delivery can be met, and each is needed: what is said of that, and the pasts that show it, one for each condition.
--- Nothing is proved here; `NeededLaws` proves it by computing.
+-- The conditions of delivery can be met, and each is needed: what is said of that, and the pasts that show it, one for
+-- each condition. Nothing is proved here; `NeededLaws` proves it by computing.
 use Prim.Native.Nat.{ℕ, _*_, _≤_, _<_}
 use mathlib.Core.Path.{_≡_}
 use mathlib.Core.Logic.{_≢_}
@@ -30,8 +30,8 @@ use Rattle.rules.specs.pasts.View.{isFrom}
 
 -- ---- an example
 
--- A message and its cut, the calls before it and those since, the piece that then comes, what the theorem promises of it, and what is
--- answered: "0 stored … 1 delivered", or the number of a refusal.
+-- A message and its cut, the calls before it and those since, the piece that then comes, what the theorem promises of
+-- it, and what is answered: "0 stored … 1 delivered", or the number of a refusal.
 pub record Example : Type 0 where
   pub given : Given
   pub octets : List ℕ
@@ -51,7 +51,8 @@ packet e = pdu (e .given) (e .octets) (e .u) (e .piece)
 abbrev pub address : ℕ → Address
 address node = record { field = record { 0 = 1 }; node = record { 0 = node } }
 
--- "setup online, N1 16, T 15000, sender field 1 node 7", as in 01's listing, and node 8 besides. The message is that of the sender at place 0.
+-- "setup online, N1 16, T 15000, sender field 1 node 7", as in 01's listing, and node 8 besides. The message is that of
+-- the sender at place 0.
 unfoldable pub setup : Setup
 setup = record { mode = 0; n1 = 16; t = 15000; count = 2; senders = address 7 ∷ address 8 ∷ [] }
 
@@ -175,8 +176,9 @@ second past since promised answered =
 
 -- ---- the conditions can be met
 
--- "in any order and some of them more than once, with other senders' packets between": the message before it was delivered; its second piece
--- comes, and comes again; then a piece of another sender's message, a clock call one ms before T, and a question; and then its first piece.
+-- "in any order and some of them more than once, with other senders' packets between": the message before it was
+-- delivered; its second piece comes, and comes again; then a piece of another sender's message, a clock call one ms
+-- before T, and a question; and then its first piece.
 unfoldable pub example : Example
 example = record {
   given = headed 7 5 100 0;
@@ -210,7 +212,8 @@ without version-not-0 = record {
   promised = 17;
   answered = 1;
 }
--- "no packet with this version and number came from this sender before": a first piece did, with other octets. Delivered with those, not stored.
+-- "no packet with this version and number came from this sender before": a first piece did, with other octets.
+-- Delivered with those, not stored.
 without unheard = second (comes 100 (replicate 257 9) 1 ∷ []) [] 0 1
 -- "the number check does not call it a repeat": the number after it was delivered. 17, not delivered.
 without no-repeat = lone (headed 7 5 100 0) (comes 101 short 1 ∷ []) 17
@@ -218,7 +221,8 @@ without no-repeat = lone (headed 7 5 100 0) (comes 101 short 1 ∷ []) 17
 without none-larger = lone (headed 7 5 100 0) (comes 101 long 1 ∷ []) 18
 -- "the mode admits it": a test message at an online node. 15, not delivered.
 without admits = lone (headed 7 5 100 1) [] 15
--- "nothing else of that sender comes between": the next message does, which drops the open one and is delivered. 17, not delivered.
+-- "nothing else of that sender comes between": the next message does, which drops the open one and is delivered. 17,
+-- not delivered.
 without only-pieces = second [] (comes 100 long 1 ∷ comes 101 short 1 ∷ []) 1 17
 -- "no clock call drops it": one does, at age T. The second piece opens the message again: stored, not delivered.
 without kept = second [] (comes 100 long 1 ∷ clock 15000 ∷ []) 1 0

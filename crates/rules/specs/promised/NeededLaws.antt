@@ -1,5 +1,5 @@
--- The conditions of delivery can be met, and each is needed: every condition is decided by computing, and so is what is promised, and the
--- examples of `Needed` are computed. Assumes nothing.
+-- The conditions of delivery can be met, and each is needed: every condition is decided by computing, and so is what is
+-- promised, and the examples of `Needed` are computed. Assumes nothing.
 use Prim.Native.Nat.{ℕ, zero, suc, _<_}
 use mathlib.Core.Path.{_≡_, refl, sym, ap, subst, _∙_}
 use mathlib.Core.Logic.{_≢_, ⊎-elim, ite, Dec·and, Dec·not}
@@ -137,7 +137,8 @@ conditions : List Condition
 conditions =
     registered ∷ length-within ∷ unit-within ∷ version-not-0 ∷ unheard ∷ no-repeat ∷ none-larger ∷ admits ∷ only-pieces ∷ kept ∷ []
 
--- Whether what comes is the piece, which conditions fail, what is promised and what is answered, and whether that is the same.
+-- Whether what comes is the piece, which conditions fail, what is promised and what is answered, and whether that is
+-- the same.
 record Row : Type 0 where
   is-piece : Bool
   fail : List Condition

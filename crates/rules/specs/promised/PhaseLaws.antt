@@ -1,4 +1,5 @@
--- The way of a message through its sender's record: while pieces are missing, and once it was delivered. Assumes nothing.
+-- The way of a message through its sender's record: while pieces are missing, and once it was delivered. Assumes
+-- nothing.
 use Prim.Native.Nat.{ℕ, _+_, _-_, _^_, _≤_, _<_}
 use mathlib.Core.Path.{_≡_, refl, sym, ap, subst, _∙_}
 use mathlib.Core.Logic.{_≢_, _⊎_, inl, inr, ⊎-elim}

@@ -329,8 +329,8 @@ module _ (w : World) (start : Start w) (es : List Event) (p : List ℕ) (vd : Ve
       = own-accepted g₁ a₁ i₁ w₁ registered₁ packets₁ p mine₁ ∙ rw none₁ in
       rw accepted₁ (joined-part g₁ a₁ i₁ w₁ registered₁ packets₁ inv₁ p mine₁ vd gave)
 
--- "Whether or not those conditions hold, nothing is ever delivered but a join of pieces accepted since that message last opened, one for
--- each piece number."
+-- "Whether or not those conditions hold, nothing is ever delivered but a join of pieces accepted since that message
+-- last opened, one for each piece number."
 pub safe : (w : World) → Start w → (es : List Event) (packet : List ℕ) → Safe w es packet
 safe w start es packet gave =
     let v = after w es in

@@ -1,5 +1,5 @@
--- For private functions' contracts alone, no public contract cites it. A state on its way: the settings are written, nobody stands in the
--- table yet. Where the setup is outside its limits it is the empty state, and stays it.
+-- For private functions' contracts alone, no public contract cites it. A state on its way: the settings are written,
+-- nobody stands in the table yet. Where the setup is outside its limits it is the empty state, and stays it.
 use Prim.Native.Nat.{ℕ}
 use mathlib.Core.Bool.{Bool, cond}
 use mathlib.Core.List.{List}

@@ -1,4 +1,5 @@
--- For private functions' contracts alone, no public contract cites it: an address as one number, by which two are compared at once.
+-- For private functions' contracts alone, no public contract cites it: an address as one number, by which two are
+-- compared at once.
 use Prim.Native.Nat.{ℕ, zero, suc, _+_, _*_, _<_}
 use mathlib.Core.Bool.{Bool, true, not, _&&_}
 use mathlib.Core.List.{List}

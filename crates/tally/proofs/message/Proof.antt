@@ -1,9 +1,11 @@
--- `tally::message` meets its contract: a walk of its MIR, by hand, since the record is lent by `&mut`. The message call is made on what was
--- lent; then the borrow of the record is opened, the record goes to `counted` by value and comes back, and the borrow is closed at it.
--- All that the proof knows of the two functions is that they meet their contracts. Assumes nothing.
+-- `tally::message` meets its contract: a walk of its MIR, by hand, since the record is lent by `&mut`. The message call
+-- is made on what was lent; then the borrow of the record is opened, the record goes to `counted` by value and comes
+-- back, and the borrow is closed at it. All that the proof knows of the two functions is that they meet their
+-- contracts. Assumes nothing.
 --
--- In this order: what is left of the parameters; an answer, of which only the outcome is read; the two calls; the exit; the walk, statement by
--- statement; and what takes the walk to the contract, which is the same for every walk but for its names.
+-- In this order: what is left of the parameters; an answer, of which only the outcome is read; the two calls; the exit;
+-- the walk, statement by statement; and what takes the walk to the contract, which is the same for every walk but for
+-- its names.
 use mathlib.Core.Path.{_≡_, refl, sym, ap}
 use Prim.Native.Nat.{ℕ}
 use mathlib.Core.List.{[], _∷_, List}
@@ -78,7 +80,8 @@ use Rattle.tally.proofs.message.Code as code
 
 -- ---- what is left of each parameter at exit
 
--- The record is still held, the storage was given to the message call, and of the state and the packet nothing has to come back.
+-- The record is still held, the storage was given to the message call, and of the state and the packet nothing has to
+-- come back.
 abbrev stayed : Stays (thin.ended .signature .params) (thin.ended .kept)
 stayed = (
   stay-ref (0 ∷ []) tt (plain (λ _. T.the-row)),
@@ -90,8 +93,8 @@ stayed = (
 
 -- ---- an answer, and a record
 
--- An answer's machine value has its outcome's in front. Behind it stands the whole state, which is large: it is taken for some values, which the
--- walk carries and does not look at.
+-- An answer's machine value has its outcome's in front. Behind it stands the whole state, which is large: it is taken
+-- for some values, which the walk carries and does not look at.
 record Front (r : Answer) (v : Val) : Type 0 where
   front : Val
   behind : Vals
@@ -106,8 +109,8 @@ front-of r v is = record {
   is-outcome = LL.owed A.the-type A′.the-laws r (v ∷ []) is .0;
 }
 
--- The reading of it, `front-field` and `front-part`, is stated by itself with the types by name: spelled out in the walk it goes past the
--- prover's step limit.
+-- The reading of it, `front-field` and `front-part`, is stated by itself with the types by name: spelled out in the
+-- walk it goes past the prover's step limit.
 front-field : fieldOf A′.mir 0 ≡ option.some (O′.mir, 0)
 front-field = refl
 
@@ -145,8 +148,8 @@ module _ {M : Type 1} (𝓤 : URA M) (H : Heap 𝓤) (𝓐 : Atoms 𝓤) (at-mem
   abbrev Count : Contract 𝓤
   Count = tripleOf 𝓤 H 𝓐 count.signature (count.spec 𝓤 H 𝓐 at-mem run)
 
--- The arguments: the record t behind the pointer (b, o) with its ghost name γ, the state w, the storage x, the packet p. The lifetimes, and the
--- shares of their tokens, are those of the record, the storage and the packet, in this order.
+-- The arguments: the record t behind the pointer (b, o) with its ghost name γ, the state w, the storage x, the packet
+-- p. The lifetimes, and the shares of their tokens, are those of the record, the storage and the packet, in this order.
 module _ {M : Type 1} (𝓤 : URA M) (H : Heap 𝓤) (𝓐 : Atoms 𝓤) (W : Given 𝓤 H 𝓐) (at-mem : Memory → SProp 𝓤) (run : Routine → Fun 𝓤)
     (κ κ₁ κ₂ : Lft) (q q₁ q₂ : Share) (b o : ℕ) (γ : GName) (t : Tally) (w : Receiver) (x p : RefT (List ℕ)) where
   abbrev lent : RefT Tally × (Receiver × (RefT (List ℕ) × (RefT (List ℕ) × Unit {0})))
@@ -244,11 +247,13 @@ module _ {M : Type 1} (𝓤 : URA M) (H : Heap 𝓤) (𝓐 : Atoms 𝓤) (W : Gi
         pass1 ! (init ! 14 refl (tt, (tt, (record { fits = x-room .0 }, tt)))) $ pass1 ! (init ! 12 refl (tt, (tt, (record { fits = p-room .0 }, tt)))) $ pass0 ! $
         -- [_10; …; _0; …; the tokens at 22; what the parameters own at 23]
         move ! (23 ∷ []) $ fsplit ! $
-        -- _7 and _8: the storage, lent on. [the record's borrow; the rest; _10 at 2; …; _8 at 6; _7 at 8; …; _3 at 16; …; the tokens at 24]
+        -- _7 and _8: the storage, lent on. [the record's borrow; the rest; _10 at 2; …; _8 at 6; _7 at 8; …; _3 at 16;
+        -- …; the tokens at 24]
         assigns ! (addr ! (from ! (fld ! refl (hop ! (look-in ! 16 (sub ! 0 refl (whole !))) (stop !))))) (from ! (stop !)) (init ! 8 refl (tt, tt)) $
         assigns ! (agg ! (and-then ! (load ! (from ! (stop !)) (look ! 8 refl)) (and-then ! (load ! (from ! (fld ! refl (stop !))) (look-in ! 16 (sub ! 1 refl (whole !)))) (no-more !))))
         (from ! (stop !)) (init ! 6 refl (tt, (tt, (record { fits = x-room .0 }, tt)))) $
-        -- _5 = message(_2, _8, _4). [what it asks; the record's token; its borrow; _10 at 3; …; _8 at 7; …; _4 at 15; …; _2 at 19; …]
+        -- _5 = message(_2, _8, _4). [what it asks; the record's token; its borrow; _10 at 3; …; _8 at 7; …; _4 at 15;
+        -- …; _2 at 19; …]
         move ! (24 ∷ []) $ split ! $ move ! (1 ∷ 3 ∷ []) $ use2 W (raw (Call 𝓤 H 𝓐 at-mem run .pre to-call)) goes-call $
         calls-at ! fm (Call 𝓤 H 𝓐 at-mem run) called to-call
         (and-then ! (load ! (from ! (stop !)) (look ! 19 refl)) (and-then ! (load ! (from ! (stop !)) (look ! 7 refl)) (and-then ! (load ! (from ! (stop !)) (look ! 15 refl)) (no-more !)))) (λ v.
@@ -259,7 +264,8 @@ module _ {M : Type 1} (𝓤 : URA M) (H : Heap 𝓤) (𝓐 : Atoms 𝓤) (W : Gi
         pick ! (λ zs. split ! $ move ! (1 ∷ []) $ split ! $ heard ! (Answered r) (λ answered. heard ! (Stored (zs .1 .0)) (λ stored.
         fsplit ! $ drop ! $ fsplit ! $ fsplit ! $ move ! (1 ∷ []) $ feqL ! (λ same-length. move ! (1 ∷ []) $ drop ! $
         move ! (1 ∷ []) $ split ! $ move ! (1 ∷ []) $ peeks ! A.the-row (Is A.the-row) (shows 𝓤 H 𝓐 A.the-row) r (v ∷ []) (λ is-v.
-        -- [the answer's; the tokens; the last storage; the record's token; its borrow; _10 at 5; …; _6 at 13; _5 at 15; …]
+        -- [the answer's; the tokens; the last storage; the record's token; its borrow; _10 at 5; …; _6 at 13; _5 at 15;
+        -- …]
         land ! (from ! (stop !)) (init ! 15 refl (answer-fits 𝓤 H 𝓐 W r v is-v)) $
         -- _6 = _5.0: the outcome, which is in front of the answer while it is read
         rewrite ! 15 (λ (u : Val). ‵ (fat fullShare A′.mir l₅ 0 u)) (front-of r v is-v .joined) refl $
@@ -270,7 +276,8 @@ module _ {M : Type 1} (𝓤 : URA M) (H : Heap 𝓤) (𝓐 : Atoms 𝓤) (W : Gi
         move ! (4 ∷ []) $ fsplit3 ! $ drop ! $ move ! (0 ∷ 1 ∷ 5 ∷ []) $ opens ! tt T.the-row {h = t} b o (λ vs.
         spelt ! T.the-row (Is T.the-row) (shows 𝓤 H 𝓐 T.the-row) tally-vals (LL.tells T.the-type T′.the-laws) fullShare t vs b o $
         move ! (1 ∷ []) $ peeks ! T.the-row (Is T.the-row) (shows 𝓤 H 𝓐 T.the-row) t (tally-vals t) (λ is-t. move ! (1 ∷ 0 ∷ []) $
-        -- _10 = *_1. [the record's cell; what it owns; the open borrow; obs; auth; the answer's; the tokens; the last storage; _10 at 8; _9 at 10; …; _6 at 16; _5 at 18; …; _1 at 26; _0 at 28]
+        -- _10 = *_1. [the record's cell; what it owns; the open borrow; obs; auth; the answer's; the tokens; the last
+        -- storage; _10 at 8; _9 at 10; …; _6 at 16; _5 at 18; …; _1 at 26; _0 at 28]
         assigns ! (of-opd ! (load ! (from ! (hop ! (look ! 26 refl) (stop !))) (look-raw ! 0 refl))) (from ! (stop !)) (init ! 8 refl (tally-fits 𝓤 H 𝓐 W t _ is-t)) $
         -- _9 = counted(_10, _6), and what it ensures of the new record s
         move ! (1 ∷ []) $ use1 W (raw (Count 𝓤 H 𝓐 at-mem run .pre (to-count (r .outcome) (front-of r v is-v .front)))) (goes-count (r .outcome) _ (front-of r v is-v .is-outcome)) $
@@ -280,12 +287,14 @@ module _ {M : Type 1} (𝓤 : URA M) (H : Heap 𝓤) (𝓐 : Atoms 𝓤) (W : Gi
         await ! tt $ pick ! (λ s. split ! $ move ! (1 ∷ []) $ use1 W (raw (fact 𝓤 (Tallied r s))) (count-said (r .outcome) s) $ heard ! (Tallied r s) (λ tallied.
         split ! $ drop ! $ peeks ! T.the-row (Is T.the-row) (shows 𝓤 H 𝓐 T.the-row) s (u ∷ []) (λ is-s.
         land ! (from ! (stop !)) (init ! 10 refl (tally-fits 𝓤 H 𝓐 W s u is-s)) $
-        -- *_1 = _9 and _0 = _5. [the new record's; the cell; the open borrow; obs; auth; the answer's; the tokens; the last storage; _10 at 8; _9 at 10; …]
+        -- *_1 = _9 and _0 = _5. [the new record's; the cell; the open borrow; obs; auth; the answer's; the tokens; the
+        -- last storage; _10 at 8; _9 at 10; …]
         assigns ! (of-opd ! (load ! (from ! (stop !)) (look ! 10 refl))) (from ! (hop ! (look ! 26 refl) (stop !))) (store-raw ! 1 refl (tally-fits 𝓤 H 𝓐 W s u is-s)) $
         assigns ! (of-opd ! (load ! (from ! (stop !)) (look ! 18 refl))) (from ! (stop !)) (init ! 28 refl (answer-fits 𝓤 H 𝓐 W r v is-v)) $
         -- the borrow is closed at the new record
         move ! (1 ∷ 0 ∷ []) $ closes ! tt T.the-row s (u ∷ []) b o $
-        -- return, and the locals are freed. [obs; the borrow; its token; the answer's; the tokens; the last storage; _10 at 6; …; _0 at 26]
+        -- return, and the locals are freed. [obs; the borrow; its token; the answer's; the tokens; the last storage;
+        -- _10 at 6; …; _0 at 26]
         returns ! (look ! 26 refl) $ forget ! 6 refl $ forget ! 8 refl $ forget ! 10 refl $ forget ! 12 refl $ forget ! 14 refl $ forget ! 16 refl $
         forget ! 18 refl $ forget ! 20 refl $ forget ! 22 refl $ forget ! 24 refl $ forget ! 26 refl $
         move ! (26 ∷ 27 ∷ []) $ free1 ! $ move ! (24 ∷ 25 ∷ []) $ free1 ! $ move ! (22 ∷ 23 ∷ []) $ free1 ! $ move ! (20 ∷ 21 ∷ []) $ free1 ! $
