@@ -14,7 +14,7 @@ use Rattle.answers.specs.declared.Outcome.{Outcome}
 use Rattle.answers.specs.declared.Outcome.the-variants as outcome
 use Rattle.answers.specs.declared.Ticked.{Ticked}
 use Rattle.answers.specs.declared.Where.{Where}
-use Rattle.answers.specs.declared.Where.the-variants as place
+use Rattle.answers.specs.declared.Where.the-variants as lies
 
 -- ---- refusals
 
@@ -68,21 +68,21 @@ outcomeRefused (outcome.Delivered v) = false
 
 -- "handed over as a part of the packet or of the storage": of neither (0), the packet (1) or the storage (2). This
 -- paper has no number for it.
-pub record PlaceTold : Type 0 where
+pub record WhereTold : Type 0 where
   pub slice : ℕ
   pub start : ℕ
   pub length : ℕ
 
 -- "any other answer gives an empty part"
-abbrev pub nothingHanded : PlaceTold
+abbrev pub nothingHanded : WhereTold
 nothingHanded = record { slice = 0; start = 0; length = 0 }
 
 -- "a one-piece message comes back as the part of the lent packet behind its header": where it starts and ends is not
 -- told.
-abbrev pub placeTold : Where → PlaceTold
-placeTold place.Nothing = nothingHanded
-placeTold place.Packet = record { slice = 1; start = 0; length = 0 }
-placeTold (place.Storage start length) = record { slice = 2; start = start; length = length }
+abbrev pub whereTold : Where → WhereTold
+whereTold lies.Nothing = nothingHanded
+whereTold lies.Packet = record { slice = 1; start = 0; length = 0 }
+whereTold (lies.Storage start length) = record { slice = 2; start = start; length = length }
 
 -- ---- the message call: all of it
 
@@ -93,7 +93,7 @@ pub record MessageTold : Type 0 where
   -- "its version and number stand in the answer (both 0 if none)"
   pub droppedVersion : ℕ
   pub droppedNumber : ℕ
-  pub place : PlaceTold
+  pub lies : WhereTold
 
 abbrev pub messageTold : Answer → MessageTold
 messageTold a = record {
@@ -101,7 +101,7 @@ messageTold a = record {
   held = a .held;
   droppedVersion = a .dropped .version .0;
   droppedNumber = a .dropped .number .0;
-  place = placeTold (a .place);
+  lies = whereTold (a .lies);
 }
 
 -- "nothing more"
@@ -111,7 +111,7 @@ messageRefused k = record {
   held = 0;
   droppedVersion = 0;
   droppedNumber = 0;
-  place = nothingHanded;
+  lies = nothingHanded;
 }
 
 -- ---- setup and the alive call: "S answer", "A answer"

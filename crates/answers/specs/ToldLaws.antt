@@ -18,8 +18,8 @@ use Rattle.answers.specs.declared.Missing.the-variants as missing
 use Rattle.answers.specs.declared.Outcome.{Outcome}
 use Rattle.answers.specs.declared.Outcome.the-variants as outcome
 use Rattle.answers.specs.declared.Where.{Where}
-use Rattle.answers.specs.declared.Where.the-variants as place
-use Rattle.answers.specs.Told.{RefusedAs, OutcomeTold, outcomeTold, PlaceTold, placeTold, MessageTold, messageTold, callNumber, QuestionTold, questionTold, OutcomeTells, CallTells, MissingTells}
+use Rattle.answers.specs.declared.Where.the-variants as lies
+use Rattle.answers.specs.Told.{RefusedAs, OutcomeTold, outcomeTold, WhereTold, whereTold, MessageTold, messageTold, callNumber, QuestionTold, questionTold, OutcomeTells, CallTells, MissingTells}
 
 -- ---- a refusal's number is told by no other case
 
@@ -74,27 +74,27 @@ delivered-outcome (outcome.Delivered v) t e = (v, refl)
 
 -- ---- the message call's answer, read back
 
-placeFrom : PlaceTold → Where
-placeFrom t = cond (eqb (t .slice) 0) place.Nothing (cond (eqb (t .slice) 1) place.Packet (place.Storage (t .start) (t .length)))
+whereFrom : WhereTold → Where
+whereFrom t = cond (eqb (t .slice) 0) lies.Nothing (cond (eqb (t .slice) 1) lies.Packet (lies.Storage (t .start) (t .length)))
 
-place-back : (p : Where) → placeFrom (placeTold p) ≡ p
-unfolding placeFrom
-place-back place.Nothing = refl
-place-back place.Packet = refl
-place-back (place.Storage start length) = refl
+where-back : (p : Where) → whereFrom (whereTold p) ≡ p
+unfolding whereFrom
+where-back lies.Nothing = refl
+where-back lies.Packet = refl
+where-back (lies.Storage start length) = refl
 
 answerFrom : MessageTold → Receiver → Answer
 answerFrom t w = record {
   outcome = outcomeFrom (t .outcome);
   held = t .held;
   dropped = record { version = record { 0 = t .droppedVersion }; number = record { 0 = t .droppedNumber } };
-  place = placeFrom (t .place);
+  lies = whereFrom (t .lies);
   state = w;
 }
 
 answer-back : (a : Answer) → OutcomeTells (a .outcome) → answerFrom (messageTold a) (a .state) ≡ a
 unfolding answerFrom
-answer-back a t = rw (outcome-back (a .outcome) t, place-back (a .place))
+answer-back a t = rw (outcome-back (a .outcome) t, where-back (a .lies))
 
 -- With the state, all of it is told.
 pub one-answer : (a b : Answer) → OutcomeTells (a .outcome) → OutcomeTells (b .outcome) → messageTold a ≡ messageTold b → a .state ≡ b .state → a ≡ b

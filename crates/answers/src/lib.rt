@@ -98,7 +98,7 @@ pub struct Answer {
     // pieces then held for the PDU's sender
     pub held: u8,
     pub dropped: Dropped,
-    pub place: Where,
+    pub lies: Where,
     pub state: Receiver,
 }
 

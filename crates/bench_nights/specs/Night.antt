@@ -51,7 +51,7 @@ sumWith sum a delivered = summed sum (a .outcome) (a .held) (length delivered)
 unfoldable pub sumBy : ℕ → World → Event → ℕ
 sumBy sum w (message packet) =
     let a = messageAnswer (w .state) (length (w .storage)) packet in
-    sumWith sum a (partOf (a .place) packet (messageStorage (w .state) (w .storage) packet))
+    sumWith sum a (partOf (a .lies) packet (messageStorage (w .state) (w .storage) packet))
 sumBy sum w (alive packet) = sum
 sumBy sum w (clock now) = sum
 sumBy sum w (aside call) = sum

@@ -48,8 +48,8 @@ pub extern "C" fn adp_night(
         let packet = run(packets, at, sizes[i] as usize);
         let a = message(state, storage, packet);
         let outcome = a.outcome;
-        let place = a.place;
-        sum = with_answer(sum, outcome, a.held, part(place, packet, storage).len());
+        let lies = a.lies;
+        sum = with_answer(sum, outcome, a.held, part(lies, packet, storage).len());
         state = a.state;
         at += packet.len();
         i += 1;

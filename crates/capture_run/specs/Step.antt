@@ -60,7 +60,7 @@ endStep w = record { state = w; line = line.End; on = false }
 unfoldable pub stepOf : Receiver → List ℕ → Kind → List ℕ → Step
 stepOf w storage kind.Setup c = startedStep w (setupAnswer (setupOf c))
 stepOf w storage kind.Message c =
-    answeredStep (messageAnswer w (length storage) c) (partOf (messageAnswer w (length storage) c .place) c (messageStorage w storage c))
+    answeredStep (messageAnswer w (length storage) c) (partOf (messageAnswer w (length storage) c .lies) c (messageStorage w storage c))
 stepOf w storage kind.Clock c = tickedStep (clockAnswer w (clockOf c))
 stepOf w storage kind.Alive c = notedStep (aliveAnswer w c)
 stepOf w storage kind.Bad c = endStep w

@@ -108,9 +108,9 @@ fn message_step(state: Receiver, storage: &mut [u8], contents: &[u8]) -> Step
 {
     let a = message(state, storage, contents);
     let outcome = a.outcome;
-    let place = a.place;
+    let lies = a.lies;
     let next = a.state;
-    let delivered = part(place, contents, storage);
+    let delivered = part(lies, contents, storage);
     let line = Line::Message {
         answer: outcome.number(),
         verdict: outcome.verdict(),

@@ -135,8 +135,8 @@ fn lent_call(w: Receiver, storage: &mut [u8], field: &[u8]) -> Receiver {
 fn message_lines<'a>(a: Answer, storage: &'a [u8], field: &'a [u8]) {
     let outcome = a.outcome;
     let dropped = a.dropped;
-    let place = a.place;
-    let delivered = part(place, from(field, PDU), storage);
+    let lies = a.lies;
+    let delivered = part(lies, from(field, PDU), storage);
     let counted = [delivered.len() as u64, sum(delivered), sum(storage)];
     message_line(read1(field, 0), outcome, a.held, dropped, counted);
 }

@@ -3,6 +3,10 @@ use Prim.Native.Nat.{ℕ, zero, suc, _+_, _-_, _/_, _%_, _^_}
 use mathlib.Core.Bool.{Bool, true, not, cond, _&&_}
 use lib.Dec.{eqb, leb}
 
+-- "a 64-bit map of pieces held": so many pieces at most.
+abbrev pub mostPieces : ℕ
+mostPieces = 64
+
 -- Bit k of a number, bit 0 lowest.
 unfoldable pub bit : ℕ → ℕ → ℕ
 bit zero m = m % 2
@@ -37,9 +41,9 @@ markedPast map t = not (isEmpty (map / 2 ^ t))
 abbrev pub isFull : ℕ → ℕ → Bool
 isFull map t = holdsAll map t && not (markedPast map t)
 
--- The map with piece c, from 1 to 64, as well.
+-- The map with piece c as well, one that it has a bit for.
 unfoldable pub marked : ℕ → ℕ → ℕ
-marked map c = cond (leb c 64 && not (holds map c)) (map + pieceBit c) map
+marked map c = cond (leb c mostPieces && not (holds map c)) (map + pieceBit c) map
 
 -- The lowest bit that is not set, of the n lowest; n where all are.
 unfoldable pub lowest : ℕ → ℕ → ℕ
@@ -48,4 +52,4 @@ lowest (suc n) m = cond (eqb (m % 2) 0) 0 (suc (lowest n (m / 2)))
 
 -- "which piece is its lowest missing one"
 abbrev pub lowestMissing : ℕ → ℕ
-lowestMissing map = lowest 64 map + 1
+lowestMissing map = lowest mostPieces map + 1

@@ -4,12 +4,15 @@ ghost use mathlib.Core.Bool.{not, _||_};
 ghost use Prim.Native.Nat.{_+_, _-_, _^_, _≤_, _<_};
 ghost use lib.Count.{ones};
 ghost use lib.Dec.{eqb};
-ghost use Rattle.map.specs.Map.{bit, holds as holdsOf, fullMap, isEmpty, isFull, markedPast, marked as markedOf, lowestMissing};
+ghost use Rattle.map.specs.Map.{mostPieces, bit, holds as holdsOf, fullMap, isEmpty, isFull, markedPast, marked as markedOf, lowestMissing};
+
+// The bits of a word, and so the most pieces of a message.
+pub const MOST_PIECES: u8 = 64;
 
 pub fn holds(map: u64, c: u8) -> bool
     ensures { λ r. ⌜ r ≡ holdsOf map c ⌝ }
 {
-    if 64 < c {
+    if MOST_PIECES < c {
         return false;
     }
     bit_of(map, shift_of(c))
@@ -23,7 +26,7 @@ fn shift_of(c: u8) -> u8
 }
 
 fn bit_of(map: u64, k: u8) -> bool
-    requires { ⌜ k < 64 ⌝ }
+    requires { ⌜ k < mostPieces ⌝ }
     ensures { λ r. ⌜ r ≡ eqb (bit k map) 1 ⌝ }
 {
     (map >> k) & 1 == 1
@@ -33,7 +36,7 @@ fn bit_of(map: u64, k: u8) -> bool
 pub fn marked(map: u64, c: u8) -> u64
     ensures { λ r. ⌜ r ≡ markedOf map c ⌝ }
 {
-    if 64 < c {
+    if MOST_PIECES < c {
         return map;
     }
     if holds(map, c) {
@@ -43,7 +46,7 @@ pub fn marked(map: u64, c: u8) -> u64
 }
 
 fn set_bit(map: u64, k: u8) -> u64
-    requires { ⌜ (k < 64) × (bit k map ≡ 0) ⌝ }
+    requires { ⌜ (k < mostPieces) × (bit k map ≡ 0) ⌝ }
     ensures { λ r. ⌜ r ≡ map + 2 ^ k ⌝ }
 {
     map | (1u64 << k)
@@ -53,7 +56,7 @@ fn set_bit(map: u64, k: u8) -> u64
 pub fn is_full(map: u64, t: u8) -> bool
     ensures { λ r. ⌜ r ≡ isFull map t ⌝ }
 {
-    if 64 < t {
+    if MOST_PIECES < t {
         return false;
     }
     map == full(t)
@@ -63,20 +66,20 @@ pub fn is_full(map: u64, t: u8) -> bool
 pub fn is_partial(map: u64, t: u8) -> bool
     ensures { λ r. ⌜ r ≡ not (isEmpty map || isFull map t || markedPast map t) ⌝ }
 {
-    if 64 < t {
+    if MOST_PIECES < t {
         return 0 < map;
     }
     (0 < map) & (map < full(t))
 }
 
 fn full(t: u8) -> u64
-    requires { ⌜ t ≤ 64 ⌝ }
+    requires { ⌜ t ≤ mostPieces ⌝ }
     ensures { λ r. ⌜ r ≡ fullMap t ⌝ }
 {
     if t == 0 {
         return 0;
     }
-    0xffff_ffff_ffff_ffff >> (64 - t)
+    0xffff_ffff_ffff_ffff >> (MOST_PIECES - t)
 }
 
 // How many pieces are held.

@@ -70,7 +70,7 @@ pub record CutterMeets (g : Given) (m : List ℕ) (u c : ℕ) (buffer : List ℕ
 -- What the call e said at the world w, and the world that it left; a message call, with the part that is then handed
 -- over.
 abbrev pub Meets : (w : World) (e : Event) → Said e → World → Type 0
-Meets w (message packet) r v = MessageMeets w packet (r .0) v × PartMeets (r .0 .place) packet (v .storage) (r .1)
+Meets w (message packet) r v = MessageMeets w packet (r .0) v × PartMeets (r .0 .lies) packet (v .storage) (r .1)
 Meets w (alive packet) r v = AliveMeets w packet r v
 Meets w (clock now) r v = ClockMeets w now r v
 Meets w (aside question) r v = QuestionMeets w r v

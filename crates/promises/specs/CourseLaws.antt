@@ -26,7 +26,7 @@ same-said : {r : Answer × List ℕ} {answer : Answer} {part : List ℕ} → r .
 same-said {r} {answer} {part} e f = ap (λ (x : Answer). (x, r .1)) e ∙ ap (λ (x : List ℕ). (answer, x)) f
 
 same-part : {r answer : Answer} {storage left : List ℕ} (packet : List ℕ) → r ≡ answer → storage ≡ left
-    → partOf (r .place) packet storage ≡ partOf (answer .place) packet left
+    → partOf (r .lies) packet storage ≡ partOf (answer .lies) packet left
 same-part packet e f = rw (e, f)
 
 pub one-call : (w : World) (e : Event) (r : Said e) (v : World) → Meets w e r v → (r ≡ said w e) × (v ≡ step w e)
@@ -81,8 +81,8 @@ pub two-messages : {w u v : World} {p q : List ℕ} {r t : Answer} → MessageMe
     → (t ≡ said (step w (message p)) (message q) .0) × ((v .storage ≡ after w (messagesOf p q) .storage) × Leads w (messagesOf p q) v)
 unfolding answers
 two-messages {w} {u} {v} {p} {q} {r} {t} m n =
-    let first : Said (message p) = (r, partOf (r .place) p (u .storage)) in
-    let second : Said (message q) = (t, partOf (t .place) q (v .storage)) in
+    let first : Said (message p) = (r, partOf (r .lies) p (u .storage)) in
+    let second : Said (message q) = (t, partOf (t .lies) q (v .storage)) in
     let rs : Answers (messagesOf p q) = (first, (second, tt)) in
     let course : Course w (messagesOf p q) rs v = (u, (m, record { handed-over = refl }), (v, (n, record { handed-over = refl }), refl)) in
     let one = one-course w (messagesOf p q) rs v course in

@@ -56,11 +56,11 @@ pub fn messages(state: Receiver, storage: &mut [u8], first: &[u8], second: &[u8]
     message(next, storage, second)
 }
 
-pub fn part<'a>(place: Where, packet: &'a [u8], storage: &'a [u8]) -> &'a [u8]
-    ensures answer { λ r. ⌜ now r ≡ partOf place (now (packet .entry)) (now (storage .entry)) ⌝ }
-    ensures meets { λ r. ⌜ PartMeets place (now (packet .entry)) (now (storage .entry)) (now r) ⌝ }
+pub fn part<'a>(lies: Where, packet: &'a [u8], storage: &'a [u8]) -> &'a [u8]
+    ensures answer { λ r. ⌜ now r ≡ partOf lies (now (packet .entry)) (now (storage .entry)) ⌝ }
+    ensures meets { λ r. ⌜ PartMeets lies (now (packet .entry)) (now (storage .entry)) (now r) ⌝ }
 {
-    receiver::part::part(place, packet, storage)
+    receiver::part::part(lies, packet, storage)
 }
 
 pub fn alive(state: Receiver, packet: &[u8]) -> Noted

@@ -41,7 +41,7 @@ pub fn message(mut state: Receiver, storage: &mut [u8], packet: &[u8]) -> Answer
             outcome: Outcome::Refused(early),
             held: 0,
             dropped: Dropped::NONE,
-            place: Where::Nothing,
+            lies: Where::Nothing,
             state,
         };
     }
@@ -54,7 +54,7 @@ pub fn message(mut state: Receiver, storage: &mut [u8], packet: &[u8]) -> Answer
             outcome: Outcome::Refused(late),
             held: 0,
             dropped: Dropped::NONE,
-            place: Where::Nothing,
+            lies: Where::Nothing,
             state,
         };
     }
@@ -67,7 +67,7 @@ pub fn message(mut state: Receiver, storage: &mut [u8], packet: &[u8]) -> Answer
         outcome,
         held: a.held,
         dropped,
-        place: to,
+        lies: to,
         state,
     }
 }

@@ -21,10 +21,10 @@ fn stored_part(storage: &[u8], start: usize, size: usize) -> &[u8]
     if part.len() < size { &part[..0] } else { part }
 }
 
-pub fn part<'a>(place: Where, packet: &'a [u8], storage: &'a [u8]) -> &'a [u8]
-    ensures { λ r. ⌜ now r ≡ partOf place (now (packet .entry)) (now (storage .entry)) ⌝ }
+pub fn part<'a>(lies: Where, packet: &'a [u8], storage: &'a [u8]) -> &'a [u8]
+    ensures { λ r. ⌜ now r ≡ partOf lies (now (packet .entry)) (now (storage .entry)) ⌝ }
 {
-    match place {
+    match lies {
         Where::Nothing => &packet[..0],
         Where::Packet => behind_header(packet),
         Where::Storage { start, length } => stored_part(storage, start, length),

@@ -33,7 +33,7 @@ pub record AlikeAnswer (a b : Answer) : Type 0 where
   pub same-outcome : a .outcome ≡ b .outcome
   pub same-held : a .held ≡ b .held
   pub same-dropped : a .dropped ≡ b .dropped
-  pub same-place : a .place ≡ b .place
+  pub same-lies : a .lies ≡ b .lies
   pub alike-state : Alike (a .state) (b .state)
 
 pub record AlikeNoted (a b : Noted) : Type 0 where

@@ -149,7 +149,7 @@ module _ (w : Receiver) (m : List Sender) (a : AlikeTables (w .senders) m (w .co
         same-outcome = outcome;
         same-held = same-sender (λ s. heldAfter s h) (looks-held h) i q;
         same-dropped = same-sender (λ s. droppedBy s h) (looks-dropped h) i q;
-        same-place = ap (λ (o : Outcome). whereBy o i h) outcome;
+        same-lies = ap (λ (o : Outcome). whereBy o i h) outcome;
         alike-state = alike-changed (λ s. senderAfter (w .n1) (w .clock) s h) (changes-after h (w .n1) (w .clock)) i e q;
       }
 
@@ -162,7 +162,7 @@ module _ (w : Receiver) (m : List Sender) (a : AlikeTables (w .senders) m (w .co
       rw (← same-number room packet, ← same-found h)
       (cond-two AlikeAnswer (eqb k 0) (taken w i (senderAt w i) h) (refused w k) (taken other i (senderAt other i) h) (refused other k)
       (λ e. let p = taken-facts w room packet (eqb-true k 0 e) .0 in alike-taken i h (p .is-valid) (p .registered))
-      (λ e. record { same-outcome = refl; same-held = refl; same-dropped = refl; same-place = refl; alike-state = alike-tables a }))
+      (λ e. record { same-outcome = refl; same-held = refl; same-dropped = refl; same-lies = refl; alike-state = alike-tables a }))
 
   same-storage : (storage packet : List ℕ) → messageStorage w storage packet ≡ messageStorage other storage packet
   unfolding messageStorage

@@ -87,7 +87,7 @@ withSender w i s = withSenders w (set (w .senders) i s)
 
 -- The answer, by what the record of the sender at place i made of the PDU.
 abbrev pub answerOf : Receiver → ℕ → Admission → Where → Answer
-answerOf w i o place = record { outcome = o .outcome; held = o .held; dropped = o .dropped; place = place; state = withSender w i (o .sender) }
+answerOf w i o lies = record { outcome = o .outcome; held = o .held; dropped = o .dropped; lies = lies; state = withSender w i (o .sender) }
 
 unfoldable pub taken : Receiver → ℕ → Sender → Head → Answer
 taken w i s h =
@@ -96,7 +96,7 @@ taken w i s h =
 
 -- "returns nothing more"; "A refusal alters no state, stamp, clock, storage or buffer."
 unfoldable pub refused : Receiver → ℕ → Answer
-refused w k = record { outcome = Refused k; held = 0; dropped = noneDropped; place = Nothing; state = w }
+refused w k = record { outcome = Refused k; held = 0; dropped = noneDropped; lies = Nothing; state = w }
 
 -- ---- the call
 

@@ -59,7 +59,7 @@ abbrev pub answerTo : World → List ℕ → Answer
 answerTo w packet = messageAnswer (w .state) (length (w .storage)) packet
 
 abbrev pub partTo : World → List ℕ → List ℕ
-partTo w packet = partOf (answerTo w packet .place) packet (messageStorage (w .state) (w .storage) packet)
+partTo w packet = partOf (answerTo w packet .lies) packet (messageStorage (w .state) (w .storage) packet)
 
 -- A message call says both.
 abbrev pub Said : Event → Type 0

@@ -99,9 +99,9 @@ module _ (w : World) (sound : Sound w) (p : List ℕ) (vd : Verdict) (gave : mes
   cut-possible : possible (h .cut) ≡ true
   cut-possible = taken-facts (w .state) (length (w .storage)) p none .1 .cut-possible
 
-  place-is : answer .place ≡ liesAt i h
+  lies-is : answer .lies ≡ liesAt i h
   unfolding messageAnswer taken admitted
-  place-is = rw (none, full)
+  lies-is = rw (none, full)
 
   storage-is : messageStorage (w .state) (w .storage) p ≡ storageAfter (w .storage) i h p
   unfolding messageStorage
@@ -122,9 +122,9 @@ module _ (w : World) (sound : Sound w) (p : List ℕ) (vd : Verdict) (gave : mes
       rw (le-leb (i * area + n) (length st) fits, ← own-octets w sound i (passed .registered) p cut-possible (passed .size))
       (sym (run-run (i * area) area 0 n st (omega arith) (omega (arith, length-after (w .storage) i p, there)) ∙ ap (λ (x : ℕ). run x n st) z))
 
-  pub part-is : partOf (answer .place) p (messageStorage (w .state) (w .storage) p) ≡ partView (view w i) p
+  pub part-is : partOf (answer .lies) p (messageStorage (w .state) (w .storage) p) ≡ partView (view w i) p
   unfolding partView
-  part-is = rw (place-is, storage-is) (⊎-elim
+  part-is = rw (lies-is, storage-is) (⊎-elim
       (λ (e : eqb (h .cut .tbn) 1 ≡ true). rw e behind-all)
       (λ (e : eqb (h .cut .tbn) 1 ≡ false). rw e part-stored)
       (true-or-false (eqb (h .cut .tbn) 1)))

@@ -28,7 +28,7 @@ returns-2 : tie.Need-returns-2
 returns-2 c = search needs
 
 returns-3 : tie.Need-returns-3
-returns-3 c = rw (c .before .before .place .given .1) (c .stored-part .ensures)
+returns-3 c = rw (c .before .before .lies .given .1) (c .stored-part .ensures)
 
 pub part-spec : {M : Type 1} → statement M
 part-spec =
