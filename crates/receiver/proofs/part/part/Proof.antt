@@ -15,8 +15,8 @@ enum-told-2 c = search needs
 behind-header-requires : tie.Need-behind-header-requires
 behind-header-requires c κs = search needs
 
-enum-known-place : tie.Need-enum-known-place
-enum-known-place c = search needs
+enum-known-lies : tie.Need-enum-known-lies
+enum-known-lies c = search needs
 
 stored-part-requires : tie.Need-stored-part-requires
 stored-part-requires c κs = search needs
@@ -38,7 +38,7 @@ part-spec =
     slice-aggregate-result
     enum-told-2
     behind-header-requires
-    enum-known-place
+    enum-known-lies
     stored-part-requires
     returns
     returns-2
