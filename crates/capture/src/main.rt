@@ -9,7 +9,7 @@ use capture_fields::HEAD;
 use capture_lines::Line;
 use capture_lines::text_of;
 use capture_run::lent;
-use capture_run::turn;
+use capture_run::next_turn;
 use capture_run::wanted;
 use libc::STDIN_FILENO;
 use libc::STDOUT_FILENO;
@@ -27,7 +27,7 @@ fn main() {
     while turns > 0 {
         let read = read_field(&mut field);
         let room = lent(state.count, ROOM);
-        let s = turn(state, &mut storage[..room], &field[..read]);
+        let s = next_turn(state, &mut storage[..room], &field[..read]);
         let line = s.line;
         if !write_line(line) {
             return;

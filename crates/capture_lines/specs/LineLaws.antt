@@ -131,24 +131,24 @@ text-counts s t e =
 -- ---- a line made word by word
 
 -- The text t holds the octets s, which are at most m.
-pub record Holds (s : List ℕ) (m : ℕ) (t : Text) : Type 0 where
+pub record Carries (s : List ℕ) (m : ℕ) (t : Text) : Type 0 where
   pub text : t ≡ textOf s
   pub most : t .length ≤ m
 
-pub holds-letter : (l : ℕ) (t : Text) → t ≡ textOf (l ∷ []) → Holds (l ∷ []) 1 t
+pub carries-letter : (l : ℕ) (t : Text) → t ≡ textOf (l ∷ []) → Carries (l ∷ []) 1 t
 unfolding textOf
-holds-letter l t e = record { text = e; most = rw e (omega arith) }
+carries-letter l t e = record { text = e; most = rw e (omega arith) }
 
 -- Octets added behind.
-holds-more : (s p : List ℕ) (m k : ℕ) (t r : Text) → Holds s m t → length p ≤ k → m + k ≤ room → r ≡ added t p → Holds (s ++ p) (m + k) r
+carries-more : (s p : List ℕ) (m k : ℕ) (t r : Text) → Carries s m t → length p ≤ k → m + k ≤ room → r ≡ added t p → Carries (s ++ p) (m + k) r
 unfolding textOf
-holds-more s p m k t r h short fits e =
+carries-more s p m k t r h short fits e =
     let front : length s ≤ m = rw (h .text) at (h .most) in
     let is : r ≡ textOf (s ++ p) = e ∙ ap (λ (x : Text). added x p) (h .text) ∙ added-text s p (omega arith) in
     record { text = is; most = rw is (omega (arith, length-append s p)) }
 
-pub holds-word : (s : List ℕ) (m n : ℕ) (t r : Text) → Holds s m t → m ≤ 75 → r ≡ added t (wordOf n) → Holds (s ++ wordOf n) (m + 21) r
-holds-word s m n t r h l e = holds-more s (wordOf n) m 21 t r h (word-room n) (omega arith) e
+pub carries-word : (s : List ℕ) (m n : ℕ) (t r : Text) → Carries s m t → m ≤ 75 → r ≡ added t (wordOf n) → Carries (s ++ wordOf n) (m + 21) r
+carries-word s m n t r h l e = carries-more s (wordOf n) m 21 t r h (word-room n) (omega arith) e
 
-pub holds-newline : (s : List ℕ) (m : ℕ) (t r : Text) → Holds s m t → m ≤ 95 → r ≡ added t (10 ∷ []) → Holds (s ++ (10 ∷ [])) (m + 1) r
-holds-newline s m t r h l e = holds-more s (10 ∷ []) m 1 t r h (omega arith) (omega arith) e
+pub carries-newline : (s : List ℕ) (m : ℕ) (t r : Text) → Carries s m t → m ≤ 95 → r ≡ added t (10 ∷ []) → Carries (s ++ (10 ∷ [])) (m + 1) r
+carries-newline s m t r h l e = carries-more s (10 ∷ []) m 1 t r h (omega arith) (omega arith) e

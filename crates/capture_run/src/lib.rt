@@ -12,7 +12,7 @@ ghost use Rattle.rules.specs.calls.Clock.{clockAnswer};
 ghost use Rattle.rules.specs.calls.Message.{messageStorage};
 ghost use Rattle.rules.specs.calls.Setup.{setupAnswer};
 ghost use Rattle.capture_fields.specs.Field.{sizeOf, nextOf, setupOf, clockOf};
-ghost use Rattle.capture_run.specs.Step.{startedStep, tickedStep, notedStep, endStep, stepOf, storageOf, turnBy, turnStorage, wantedBy, lentOf};
+ghost use Rattle.capture_run.specs.Turn.{startedTurn, tickedTurn, notedTurn, endTurn, turnOf, storageOf, turnBy, turnStorage, wantedBy, lentOf};
 ghost use Rattle.capture_fields.specs.declared.Kind.the-variants as kind;
 use alive::alive;
 use capture_fields::HEAD;
@@ -30,7 +30,7 @@ use receiver::part::part;
 use setup::setup;
 use state::Receiver;
 
-pub struct Step {
+pub struct Turn {
     pub state: Receiver,
     pub line: Line,
     // whether the run goes on
@@ -38,27 +38,27 @@ pub struct Step {
 }
 
 // The field at the front of what was read.
-pub fn turn(state: Receiver, storage: &mut [u8], read: &[u8]) -> Step
+pub fn next_turn(state: Receiver, storage: &mut [u8], read: &[u8]) -> Turn
     ensures answer { λ r. ⌜ r ≡ turnBy state (now (storage .entry)) (now (read .entry)) (nextOf (now (read .entry))) ⌝ }
     ensures stored { λ _. ⌜ now (storage .exit) ≡ turnStorage state (now (storage .entry)) (now (read .entry)) (nextOf (now (read .entry))) ⌝ }
 {
     let next = next_field(read);
     match next {
-        Next::Nothing => Step {
+        Next::Nothing => Turn {
             state,
             line: Line::Nothing,
             on: false,
         },
         Next::Cut => end(state),
         Next::Bad => end(state),
-        Next::Whole { kind, size } => step_of(state, storage, kind, contents(read, size)),
+        Next::Whole { kind, size } => turn_of(state, storage, kind, contents(read, size)),
     }
 }
 
-fn end(state: Receiver) -> Step
-    ensures { λ r. ⌜ r ≡ endStep state ⌝ }
+fn end(state: Receiver) -> Turn
+    ensures { λ r. ⌜ r ≡ endTurn state ⌝ }
 {
-    Step {
+    Turn {
         state,
         line: Line::End,
         on: false,
@@ -66,22 +66,22 @@ fn end(state: Receiver) -> Step
 }
 
 // What a field of this kind with these contents does.
-pub fn step_of(state: Receiver, storage: &mut [u8], kind: Kind, contents: &[u8]) -> Step
-    ensures answer { λ r. ⌜ r ≡ stepOf state (now (storage .entry)) kind (now (contents .entry)) ⌝ }
+pub fn turn_of(state: Receiver, storage: &mut [u8], kind: Kind, contents: &[u8]) -> Turn
+    ensures answer { λ r. ⌜ r ≡ turnOf state (now (storage .entry)) kind (now (contents .entry)) ⌝ }
     ensures stored { λ _. ⌜ now (storage .exit) ≡ storageOf state (now (storage .entry)) kind (now (contents .entry)) ⌝ }
 {
     match kind {
-        Kind::Setup => setup_step(state, contents),
-        Kind::Message => message_step(state, storage, contents),
-        Kind::Clock => clock_step(state, contents),
-        Kind::Alive => alive_step(state, contents),
+        Kind::Setup => setup_turn(state, contents),
+        Kind::Message => message_turn(state, storage, contents),
+        Kind::Clock => clock_turn(state, contents),
+        Kind::Alive => alive_turn(state, contents),
         Kind::Bad => end(state),
     }
 }
 
 // A refused setup leaves the state in use.
-fn setup_step(state: Receiver, contents: &[u8]) -> Step
-    ensures { λ r. ⌜ r ≡ startedStep state (setupAnswer (setupOf (now (contents .entry)))) ⌝ }
+fn setup_turn(state: Receiver, contents: &[u8]) -> Turn
+    ensures { λ r. ⌜ r ≡ startedTurn state (setupAnswer (setupOf (now (contents .entry)))) ⌝ }
 {
     let a = setup(setup_of(contents));
     let call = a.call;
@@ -89,21 +89,21 @@ fn setup_step(state: Receiver, contents: &[u8]) -> Step
     let line = Line::Setup { answer };
     if answer == 0 {
         let next = a.state;
-        return Step {
+        return Turn {
             state: next,
             line,
             on: true,
         };
     }
-    Step {
+    Turn {
         state,
         line,
         on: true,
     }
 }
 
-fn message_step(state: Receiver, storage: &mut [u8], contents: &[u8]) -> Step
-    ensures answer { λ r. ⌜ r ≡ stepOf state (now (storage .entry)) kind.Message (now (contents .entry)) ⌝ }
+fn message_turn(state: Receiver, storage: &mut [u8], contents: &[u8]) -> Turn
+    ensures answer { λ r. ⌜ r ≡ turnOf state (now (storage .entry)) kind.Message (now (contents .entry)) ⌝ }
     ensures stored { λ _. ⌜ now (storage .exit) ≡ messageStorage state (now (storage .entry)) (now (contents .entry)) ⌝ }
 {
     let a = message(state, storage, contents);
@@ -117,15 +117,15 @@ fn message_step(state: Receiver, storage: &mut [u8], contents: &[u8]) -> Step
         held: a.held,
         length: delivered.len(),
     };
-    Step {
+    Turn {
         state: next,
         line,
         on: true,
     }
 }
 
-fn clock_step(state: Receiver, contents: &[u8]) -> Step
-    ensures { λ r. ⌜ r ≡ tickedStep (clockAnswer state (clockOf (now (contents .entry)))) ⌝ }
+fn clock_turn(state: Receiver, contents: &[u8]) -> Turn
+    ensures { λ r. ⌜ r ≡ tickedTurn (clockAnswer state (clockOf (now (contents .entry)))) ⌝ }
 {
     let a = clock(state, clock_of(contents));
     let call = a.call;
@@ -135,15 +135,15 @@ fn clock_step(state: Receiver, contents: &[u8]) -> Step
         dropped: a.dropped,
         dead: a.dead,
     };
-    Step {
+    Turn {
         state: next,
         line,
         on: true,
     }
 }
 
-fn alive_step(state: Receiver, contents: &[u8]) -> Step
-    ensures { λ r. ⌜ r ≡ notedStep (aliveAnswer state (now (contents .entry))) ⌝ }
+fn alive_turn(state: Receiver, contents: &[u8]) -> Turn
+    ensures { λ r. ⌜ r ≡ notedTurn (aliveAnswer state (now (contents .entry))) ⌝ }
 {
     let a = alive(state, contents);
     let call = a.call;
@@ -151,7 +151,7 @@ fn alive_step(state: Receiver, contents: &[u8]) -> Step
     let line = Line::Alive {
         answer: call.number(),
     };
-    Step {
+    Turn {
         state: next,
         line,
         on: true,

@@ -43,8 +43,8 @@ array-share-prefix-field c = search needs
 slice-aggregate-turn-2 : tie.Need-slice-aggregate-turn-2 Inv-loop μ-loop
 slice-aggregate-turn-2 c = sym (length-take-le _ _ (omega (arith, c .before .before .before .before .read-field .ensures, c .before .before .before .before .read-field .kept .0, c .before .before .before .before .before .before .before .loop .inv .1)))
 
-turn-requires : tie.Need-turn-requires Inv-loop μ-loop
-turn-requires c κs = search needs
+next-turn-requires : tie.Need-next-turn-requires Inv-loop μ-loop
+next-turn-requires c κs = search needs
 
 write-line-requires : tie.Need-write-line-requires Inv-loop μ-loop
 write-line-requires c κs = search needs
@@ -64,7 +64,7 @@ loop-less c = search needs
 loop-again : tie.Need-loop-again Inv-loop μ-loop
 loop-again c =
     let before = c .before .before .before .before .before .before .before .before .before .before .before .before .before .before in
-    (length-front (before .loop .storage) (c .before .before .before .before .before .before .turn .last .1 .0) (c .before .before .before .before .before .before .before .before .before .lent .result) (c .before .before .before .before .before .before .turn .kept .1 .0) ∙ before .loop .inv .0, c .before .before .before .before .before .before .before .before .before .before .before .read-field .kept .0 ∙ before .loop .inv .1, omega arith)
+    (length-front (before .loop .storage) (c .before .before .before .before .before .before .next-turn .last .1 .0) (c .before .before .before .before .before .before .before .before .before .lent .result) (c .before .before .before .before .before .before .next-turn .kept .1 .0) ∙ before .loop .inv .0, c .before .before .before .before .before .before .before .before .before .before .before .read-field .kept .0 ∙ before .loop .inv .1, omega arith)
 
 returns-3 : tie.Need-returns-3 Inv-loop μ-loop
 returns-3 c = search needs
@@ -84,7 +84,7 @@ main-spec =
     slice-aggregate-turn
     array-share-prefix-field
     slice-aggregate-turn-2
-    turn-requires
+    next-turn-requires
     write-line-requires
     returns
     returns-2

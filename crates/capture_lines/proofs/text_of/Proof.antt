@@ -2,7 +2,7 @@
 use borrow.Author.Needs.{needs}
 use native.Mathlib.Omega.{arith}
 use Rattle.capture_lines.specs.Line.{lineOf}
-use Rattle.capture_lines.specs.LineLaws.{text-counts, holds-letter, holds-newline}
+use Rattle.capture_lines.specs.LineLaws.{text-counts, carries-letter, carries-newline}
 use Rattle.capture_lines.proofs.text_of.Statement.{statement}
 use Rattle.capture_lines.proofs.text_of.Tie as tie
 
@@ -67,7 +67,7 @@ letter-requires : tie.Need-letter-requires
 letter-requires c κs = search needs
 
 newline-requires : tie.Need-newline-requires
-newline-requires c κs = omega (arith, holds-letter 69 _ (c .letter .ensures) .most)
+newline-requires c κs = omega (arith, carries-letter 69 _ (c .letter .ensures) .most)
 
 returns : tie.Need-returns
 unfolding lineOf
@@ -92,7 +92,7 @@ returns-5 c = (rw (c .before .before .line4 .given .1) (c .one2 .ensures), text-
 returns-6 : tie.Need-returns-6
 unfolding lineOf
 returns-6 c =
-    let end = holds-newline _ 1 _ _ (holds-letter 69 _ (c .before .letter .ensures)) (omega arith) (c .newline .ensures) in
+    let end = carries-newline _ 1 _ _ (carries-letter 69 _ (c .before .letter .ensures)) (omega arith) (c .newline .ensures) in
     (rw (c .before .before .enum-told2 .given .1) (end .text), text-counts _ _ (end .text))
 
 pub text-of-spec : {M : Type 1} → statement M

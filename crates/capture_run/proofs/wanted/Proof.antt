@@ -2,7 +2,7 @@
 use borrow.Author.Needs.{needs}
 use mathlib.Core.Path.{refl, sym, _∙_}
 use native.Mathlib.Omega.{arith}
-use Rattle.capture_run.specs.Step.{wantedBy}
+use Rattle.capture_run.specs.Turn.{wantedBy}
 use Rattle.capture_run.proofs.wanted.Statement.{statement}
 use Rattle.capture_run.proofs.wanted.Tie as tie
 

@@ -89,29 +89,29 @@ pub data Condition : Type 0 where
 abbrev pub NoneAsked : World → List ℕ → Type 0
 NoneAsked w p = Unit {0}
 
-abbrev pub Holds : Condition → Example → Type 0
+abbrev pub Fulfilled : Condition → Example → Type 0
 -- "a registered sender's message"
-Holds registered e = (0 < before e .state .count) × (addressAt (before e .state .senders) 0 ≡ sent e .address)
+Fulfilled registered e = (0 < before e .state .count) × (addressAt (before e .state .senders) 0 ≡ sent e .address)
 -- "n … (0 to 16,384)"
-Holds length-within e = length (e .octets) ≤ mostOctets
+Fulfilled length-within e = length (e .octets) ≤ mostOctets
 -- "and u the piece length, 256 to 1,396"
-Holds unit-within e = isUnit (e .u) ≡ true
+Fulfilled unit-within e = isUnit (e .u) ≡ true
 -- "If its version is not 0,"
-Holds version-not-0 e = sent e .version .0 ≢ 0
+Fulfilled version-not-0 e = sent e .version .0 ≢ 0
 -- "no packet with this version and number came from this sender before,"
-Holds unheard e = (p : List ℕ) → List·Memᴰ (message p) (e .past) → isFrom (sent e .address) p ≡ true
+Fulfilled unheard e = (p : List ℕ) → List·Memᴰ (message p) (e .past) → isFrom (sent e .address) p ≡ true
     → headOf p .given .version .0 ≡ sent e .version .0 → headOf p .given .number .0 ≢ sent e .number .0
 -- "the number check does not call it a repeat,"
-Holds no-repeat e = isRepeat (verdict e) ≡ false
+Fulfilled no-repeat e = isRepeat (verdict e) ≡ false
 -- "no larger number of that version is open for the sender,"
-Holds none-larger e =
+Fulfilled none-larger e =
     sender e .«open» && eqb (sender e .message .version .0) (sent e .version .0) && newer (sender e .message .number) (sent e .number) ≡ false
 -- "the mode admits it,"
-Holds admits e = eqb (sent e .mode) 1 && not (before e .state .test) ≡ false
+Fulfilled admits e = eqb (sent e .mode) 1 && not (before e .state .test) ≡ false
 -- "nothing else of that sender comes between"
-Holds only-pieces e = (p : List ℕ) → List·Memᴰ (message p) (e .since) → isFrom (sent e .address) p ≡ true → OnlyPieces (sent e) (before e) p
+Fulfilled only-pieces e = (p : List ℕ) → List·Memᴰ (message p) (e .since) → isFrom (sent e .address) p ≡ true → OnlyPieces (sent e) (before e) p
 -- "no clock call drops it"
-Holds kept e = Between NoneAsked (sent e) 0 (before e) (e .since)
+Fulfilled kept e = Between NoneAsked (sent e) 0 (before e) (e .since)
 
 -- ---- what is said
 
@@ -128,8 +128,8 @@ pub record Met (e : Example) : Type 0 where
 pub record Needed (x : Condition) (e : Example) : Type 0 where
   pub started : Start start
   pub is-piece : PieceOf (sent e) (e .piece) (packet e)
-  pub others : (y : Condition) → y ≢ x → Holds y e
-  pub fails : ¬ Holds x e
+  pub others : (y : Condition) → y ≢ x → Fulfilled y e
+  pub fails : ¬ Fulfilled x e
   pub broken : ¬ Promise e
 
 -- ---- the messages

@@ -38,7 +38,7 @@ use Rattle.rules.specs.calls.Part.{storedPart}
 use Rattle.rules.specs.pasts.Past.{World, Event, message, alive, clock, aside, step, after, partTo, Start}
 use Rattle.rules.specs.calls.Setup.{setupWithin, newSenders, setupState, setupAnswer}
 use Rattle.rules.specs.pasts.View.{inOrder, isFrom}
-use Rattle.rules.specs.promised.Needed.{Example, sent, packet, setup, start, before, sender, verdict, finds, outcome, Promise, Condition, registered, length-within, unit-within, version-not-0, unheard, no-repeat, none-larger, admits, only-pieces, kept, NoneAsked, Holds, Met, Needed, example, without}
+use Rattle.rules.specs.promised.Needed.{Example, sent, packet, setup, start, before, sender, verdict, finds, outcome, Promise, Condition, registered, length-within, unit-within, version-not-0, unheard, no-repeat, none-larger, admits, only-pieces, kept, NoneAsked, Fulfilled, Met, Needed, example, without}
 
 -- ---- decisions that compute
 
@@ -112,7 +112,7 @@ dec-kept : (m : Sent) (w : World) (es : List Event) → Dec (Between NoneAsked m
 dec-kept m w [] = yes tt
 dec-kept m w (e ∷ es) = Dec·and (dec-allowed m w e) (dec-kept m (step w e) es)
 
-decide : (y : Condition) (e : Example) → Dec (Holds y e)
+decide : (y : Condition) (e : Example) → Dec (Fulfilled y e)
 decide registered e =
     Dec·and (dec-le 1 (before e .state .count)) (dec-address (addressAt (before e .state .senders) 0) (sent e .address))
 decide length-within e = dec-le (length (e .octets)) mostOctets
@@ -139,7 +139,7 @@ conditions =
 
 -- Whether what comes is the piece, which conditions fail, what is promised and what is answered, and whether that is
 -- the same.
-record Row : Type 0 where
+record Computed : Type 0 where
   is-piece : Bool
   fail : List Condition
   promised : ℕ
@@ -149,8 +149,8 @@ record Row : Type 0 where
 promise : Example → ℕ
 promise e = promisedBy (sent e) (e .since) (e .piece) (one-applies (sent e) (e .since) (e .piece))
 
--- All that is computed with stands in this line: who unfolds `row` unfolds it.
-row : Example → Row
+-- All that is computed with stands in this line: who unfolds `computed` unfolds it.
+computed : Example → Computed
 unfolding
     decided dec-by dec-if dec-or dec-true dec-false dec-eq dec-le dec-octets dec-cut dec-address dec-piece dec-some dec-brings dec-came others one-applies promisedBy
     dec-brought dec-each dec-allowed dec-kept decide failing conditions promise Dec·and Dec·not
@@ -162,7 +162,7 @@ unfolding
     first headWithin messageRows messageAnswer taken refused withSender messageStorage storageAfter storedPart
     senderRows admitted rejoins sameCut holdsAll marked mapAfter fills senderAfter
     clockAnswer ticked agedSenders aged mapWhere
-row e = record {
+computed e = record {
   is-piece = ite (dec-piece (sent e) (e .piece) (packet e)) true false;
   fail = failing e conditions;
   promised = promise e;
@@ -170,29 +170,29 @@ row e = record {
   same = eqb (e .promised) (e .answered);
 }
 
-abbrev said : Example → List Condition → Bool → Row
+abbrev said : Example → List Condition → Bool → Computed
 said e fail same = record { is-piece = true; fail = fail; promised = e .promised; answered = e .answered; same = same }
 
-example-row : row example ≡ said example [] true
-unfolding row
-example-row = refl
+example-computed : computed example ≡ said example [] true
+unfolding computed
+example-computed = refl
 
 example-delivered : (outcomeTold (outcome example) ≡ deliveredAs (verdict example)) × (partTo (finds example) (packet example) ≡ example .octets)
-unfolding row
+unfolding computed
 example-delivered = (refl, refl)
 
-without-row : (x : Condition) → row (without x) ≡ said (without x) (x ∷ []) false
-unfolding row
-without-row registered = refl
-without-row length-within = refl
-without-row unit-within = refl
-without-row version-not-0 = refl
-without-row unheard = refl
-without-row no-repeat = refl
-without-row none-larger = refl
-without-row admits = refl
-without-row only-pieces = refl
-without-row kept = refl
+without-computed : (x : Condition) → computed (without x) ≡ said (without x) (x ∷ []) false
+unfolding computed
+without-computed registered = refl
+without-computed length-within = refl
+without-computed unit-within = refl
+without-computed version-not-0 = refl
+without-computed unheard = refl
+without-computed no-repeat = refl
+without-computed none-larger = refl
+without-computed admits = refl
+without-computed only-pieces = refl
+without-computed kept = refl
 
 -- ---- what the rows say
 
@@ -218,48 +218,48 @@ in-conditions y = place y
     place kept = nth conditions 9 (omega arith)
 
 module _ (e : Example) where
-  fails-in : (ys : List Condition) (y : Condition) → List·Memᴰ y ys → ¬ Holds y e → List·Memᴰ y (failing e ys)
+  fails-in : (ys : List Condition) (y : Condition) → List·Memᴰ y ys → ¬ Fulfilled y e → List·Memᴰ y (failing e ys)
   unfolding failing
   fails-in [] y i n = i
   fails-in (z ∷ zs) y i n = by (decide z e) (fails-in zs y)
     where
-      by : (d : Dec (Holds z e)) → (List·Memᴰ y zs → ¬ Holds y e → List·Memᴰ y (failing e zs)) → List·Memᴰ y (ite d (failing e zs) (z ∷ failing e zs))
-      by (yes h) rest = ⊎-elim (λ (q : y ≡ z). absurd (n (subst (λ (x : Condition). Holds x e) (sym q) h))) (λ j. rest j n) (List·Memᴰ·cases-cons i)
+      by : (d : Dec (Fulfilled z e)) → (List·Memᴰ y zs → ¬ Fulfilled y e → List·Memᴰ y (failing e zs)) → List·Memᴰ y (ite d (failing e zs) (z ∷ failing e zs))
+      by (yes h) rest = ⊎-elim (λ (q : y ≡ z). absurd (n (subst (λ (x : Condition). Fulfilled x e) (sym q) h))) (λ j. rest j n) (List·Memᴰ·cases-cons i)
       by (no k) rest = ⊎-elim (λ (q : y ≡ z). List·Memᴰ·head q) (λ j. List·Memᴰ·tail (rest j n)) (List·Memᴰ·cases-cons i)
 
-  in-fails : (ys : List Condition) (y : Condition) → List·Memᴰ y (failing e ys) → ¬ Holds y e
+  in-fails : (ys : List Condition) (y : Condition) → List·Memᴰ y (failing e ys) → ¬ Fulfilled y e
   unfolding failing
   in-fails [] y i = absurd (List·Memᴰ·not-nil i)
   in-fails (z ∷ zs) y i = by (decide z e) (in-fails zs y) i
     where
-      by : (d : Dec (Holds z e)) → (List·Memᴰ y (failing e zs) → ¬ Holds y e) → List·Memᴰ y (ite d (failing e zs) (z ∷ failing e zs)) → ¬ Holds y e
+      by : (d : Dec (Fulfilled z e)) → (List·Memᴰ y (failing e zs) → ¬ Fulfilled y e) → List·Memᴰ y (ite d (failing e zs) (z ∷ failing e zs)) → ¬ Fulfilled y e
       by (yes h) rest j = rest j
-      by (no k) rest j = ⊎-elim (λ (q : y ≡ z). λ h. k (subst (λ (x : Condition). Holds x e) q h)) rest (List·Memᴰ·cases-cons j)
+      by (no k) rest j = ⊎-elim (λ (q : y ≡ z). λ h. k (subst (λ (x : Condition). Fulfilled x e) q h)) rest (List·Memᴰ·cases-cons j)
 
   promise-is : Promise e → outcomeTold (outcome e) .number ≡ promise e
   unfolding promise
   promise-is a = promised-is (sent e) (e .since) (e .piece) (verdict e) (outcome e) (partTo (finds e) (packet e)) a _
 
-  -- What a row says of its example.
+  -- What a computed says of its example.
   record Facts (fail : List Condition) (same : Bool) : Type 0 where
     is-piece : PieceOf (sent e) (e .piece) (packet e)
-    holds : (y : Condition) → ¬ List·Memᴰ y fail → Holds y e
-    fails : (y : Condition) → List·Memᴰ y fail → ¬ Holds y e
+    holds : (y : Condition) → ¬ List·Memᴰ y fail → Fulfilled y e
+    fails : (y : Condition) → List·Memᴰ y fail → ¬ Fulfilled y e
     kept-to : Promise e → same ≡ true
 
-  row-facts : (fail : List Condition) (same : Bool) → row e ≡ said e fail same → Facts fail same
-  unfolding row
+  row-facts : (fail : List Condition) (same : Bool) → computed e ≡ said e fail same → Facts fail same
+  unfolding computed
   row-facts fail same r = record {
-    is-piece = piece (dec-piece (sent e) (e .piece) (packet e)) (ap (λ (r : Row). r .is-piece) r);
+    is-piece = piece (dec-piece (sent e) (e .piece) (packet e)) (ap (λ (r : Computed). r .is-piece) r);
     holds = λ y out. decided-by (decide y e) (λ n. out (subst (List·Memᴰ y) q (fails-in conditions y (in-conditions y) n)));
     fails = λ y i. in-fails conditions y (subst (List·Memᴰ y) (sym q) i);
     kept-to = λ a.
-        let z : e .promised ≡ e .answered = sym (ap (λ (r : Row). r .promised) r) ∙ sym (promise-is a) ∙ ap (λ (r : Row). r .answered) r in
-        sym (ap (λ (r : Row). r .same) r) ∙ eq-eqb (e .promised) (e .answered) z;
+        let z : e .promised ≡ e .answered = sym (ap (λ (r : Computed). r .promised) r) ∙ sym (promise-is a) ∙ ap (λ (r : Computed). r .answered) r in
+        sym (ap (λ (r : Computed). r .same) r) ∙ eq-eqb (e .promised) (e .answered) z;
   }
     where
       q : failing e conditions ≡ fail
-      q = ap (λ (r : Row). r .fail) r
+      q = ap (λ (r : Computed). r .fail) r
 
       piece : (d : Dec (PieceOf (sent e) (e .piece) (packet e))) → ite d true false ≡ true → PieceOf (sent e) (e .piece) (packet e)
       piece (yes h) z = h
@@ -270,10 +270,10 @@ module _ (e : Example) where
       decided-by (no n) f = absurd (f n)
 
   -- The conditions are what the theorem asks for.
-  pub conditions-between : Holds only-pieces e → Holds kept e → Between (OnlyPieces (sent e)) (sent e) 0 (before e) (e .since)
+  pub conditions-between : Fulfilled only-pieces e → Fulfilled kept e → Between (OnlyPieces (sent e)) (sent e) 0 (before e) (e .since)
   conditions-between f = between-by NoneAsked (OnlyPieces (sent e)) (sent e) 0 (before e) (e .since) (λ v p there mine _. f p there mine)
 
-  pub conditions-may : ((y : Condition) → Holds y e) → May (sent e) 0 (e .past) (before e)
+  pub conditions-may : ((y : Condition) → Fulfilled y e) → May (sent e) 0 (e .past) (before e)
   conditions-may h = record {
     here = h registered .0;
     registered = h registered .1;
@@ -293,8 +293,8 @@ started = record { given = setup; state = refl; room = length-replicate {A = ℕ
 
 pub can-be-met : Met example
 can-be-met =
-    let r = row-facts example [] true example-row in
-    let all : (y : Condition) → Holds y example = λ y. r .holds y (λ i. List·Memᴰ·not-nil i) in
+    let r = row-facts example [] true example-computed in
+    let all : (y : Condition) → Fulfilled y example = λ y. r .holds y (λ i. List·Memᴰ·not-nil i) in
     record {
       started = started;
       version = all version-not-0;
@@ -306,7 +306,7 @@ can-be-met =
 
 pub each-needed : (x : Condition) → Needed x (without x)
 each-needed x =
-    let r = row-facts (without x) (x ∷ []) false (without-row x) in
+    let r = row-facts (without x) (x ∷ []) false (without-computed x) in
     record {
       started = started;
       is-piece = r .is-piece;

@@ -20,14 +20,14 @@ use Rattle.capture_fields.specs.declared.Kind.the-variants as kind
 use Rattle.capture_fields.specs.declared.Next.{Next}
 use Rattle.capture_fields.specs.declared.Next.the-variants as next
 use Rattle.capture_lines.specs.declared.Line.the-variants as line
-use Rattle.capture_run.specs.declared.Step.{Step}
+use Rattle.capture_run.specs.declared.Turn.{Turn}
 use Rattle.capture_fields.specs.Field.{sizeOf, headSize, contentsOf, setupOf, clockOf}
 
 -- ---- one call
 
 -- "S answer"; "a refused setup leaves the state in use"
-abbrev pub startedStep : Receiver → Started → Step
-startedStep w a = record {
+abbrev pub startedTurn : Receiver → Started → Turn
+startedTurn w a = record {
   state = cond (eqb (callNumber (a .call)) 0) (a .state) w;
   line = line.Setup (callNumber (a .call));
   on = true;
@@ -35,35 +35,35 @@ startedStep w a = record {
 
 -- "P answer verdict held length (held: pieces then held for the PDU's sender, 0 on a refusal; length of a delivery,
 -- otherwise 0)"
-abbrev pub answeredStep : Answer → List ℕ → Step
-answeredStep a delivered = record {
+abbrev pub answeredTurn : Answer → List ℕ → Turn
+answeredTurn a delivered = record {
   state = a .state;
   line = line.Message (messageTold a .outcome .number) (messageTold a .outcome .verdict) (messageTold a .held) (length delivered);
   on = true;
 }
 
 -- "C answer, dropped map, dead map (both 0 on a refusal)"
-abbrev pub tickedStep : Ticked → Step
-tickedStep a = record { state = a .state; line = line.Clock (clockTold a .number) (clockTold a .dropped) (clockTold a .dead); on = true }
+abbrev pub tickedTurn : Ticked → Turn
+tickedTurn a = record { state = a .state; line = line.Clock (clockTold a .number) (clockTold a .dropped) (clockTold a .dead); on = true }
 
 -- "A answer"
-abbrev pub notedStep : Noted → Step
-notedStep a = record { state = a .state; line = line.Alive (callNumber (a .call)); on = true }
+abbrev pub notedTurn : Noted → Turn
+notedTurn a = record { state = a .state; line = line.Alive (callNumber (a .call)); on = true }
 
 -- "A bad or cut field ends the run with the line "E"."
-abbrev pub endStep : Receiver → Step
-endStep w = record { state = w; line = line.End; on = false }
+abbrev pub endTurn : Receiver → Turn
+endTurn w = record { state = w; line = line.End; on = false }
 
 -- ---- one field
 
 -- What a field with these contents does.
-unfoldable pub stepOf : Receiver → List ℕ → Kind → List ℕ → Step
-stepOf w storage kind.Setup c = startedStep w (setupAnswer (setupOf c))
-stepOf w storage kind.Message c =
-    answeredStep (messageAnswer w (length storage) c) (partOf (messageAnswer w (length storage) c .lies) c (messageStorage w storage c))
-stepOf w storage kind.Clock c = tickedStep (clockAnswer w (clockOf c))
-stepOf w storage kind.Alive c = notedStep (aliveAnswer w c)
-stepOf w storage kind.Bad c = endStep w
+unfoldable pub turnOf : Receiver → List ℕ → Kind → List ℕ → Turn
+turnOf w storage kind.Setup c = startedTurn w (setupAnswer (setupOf c))
+turnOf w storage kind.Message c =
+    answeredTurn (messageAnswer w (length storage) c) (partOf (messageAnswer w (length storage) c .lies) c (messageStorage w storage c))
+turnOf w storage kind.Clock c = tickedTurn (clockAnswer w (clockOf c))
+turnOf w storage kind.Alive c = notedTurn (aliveAnswer w c)
+turnOf w storage kind.Bad c = endTurn w
 
 -- What it leaves in the storage.
 unfoldable pub storageOf : Receiver → List ℕ → Kind → List ℕ → List ℕ
@@ -74,11 +74,11 @@ storageOf w storage kind.Alive c = storage
 storageOf w storage kind.Bad c = storage
 
 -- The field at the front of what was read: nothing more to read ends the run without a line.
-unfoldable pub turnBy : Receiver → List ℕ → List ℕ → Next → Step
+unfoldable pub turnBy : Receiver → List ℕ → List ℕ → Next → Turn
 turnBy w storage s next.Nothing = record { state = w; line = line.Nothing; on = false }
-turnBy w storage s next.Cut = endStep w
-turnBy w storage s next.Bad = endStep w
-turnBy w storage s (next.Whole k n) = stepOf w storage k (contentsOf s n)
+turnBy w storage s next.Cut = endTurn w
+turnBy w storage s next.Bad = endTurn w
+turnBy w storage s (next.Whole k n) = turnOf w storage k (contentsOf s n)
 
 unfoldable pub turnStorage : Receiver → List ℕ → List ℕ → Next → List ℕ
 turnStorage w storage s next.Nothing = storage

@@ -1,8 +1,8 @@
 -- The call on the contents, and its line. Assumes nothing.
 use borrow.Author.Needs.{needs}
-use Rattle.capture_run.specs.Step.{stepOf}
-use Rattle.capture_run.proofs.message_step.Statement.{statement}
-use Rattle.capture_run.proofs.message_step.Tie as tie
+use Rattle.capture_run.specs.Turn.{turnOf}
+use Rattle.capture_run.proofs.message_turn.Statement.{statement}
+use Rattle.capture_run.proofs.message_turn.Tie as tie
 
 message-requires : tie.Need-message-requires
 message-requires c κs = search needs
@@ -20,13 +20,13 @@ same-length : tie.Need-same-length
 same-length c = search needs
 
 returns : tie.Need-returns
-unfolding stepOf
+unfolding turnOf
 returns c =
     let m = c .before .before .before .before .before .before .before in
     (simp (c .verdict .ensures, c .before .number .ensures, c .before .before .part .ensures, m .message .ensures .0, m .message .ensures .1), m .message .ensures .1)
 
-pub message-step-spec : {M : Type 1} → statement M
-message-step-spec =
+pub message-turn-spec : {M : Type 1} → statement M
+message-turn-spec =
     tie.close
     (tie.spec
     message-requires

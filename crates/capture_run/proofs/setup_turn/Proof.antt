@@ -1,8 +1,8 @@
 -- The call on the contents, and its line. Assumes nothing.
 use borrow.Author.Needs.{needs}
 use borrow.Author.Tests.{eq-eqb, ne-eqb}
-use Rattle.capture_run.proofs.setup_step.Statement.{statement}
-use Rattle.capture_run.proofs.setup_step.Tie as tie
+use Rattle.capture_run.proofs.setup_turn.Statement.{statement}
+use Rattle.capture_run.proofs.setup_turn.Tie as tie
 
 setup-of-requires : tie.Need-setup-of-requires
 setup-of-requires c κs = search needs
@@ -23,6 +23,6 @@ returns-2 c =
     let k = c .before in
     rw (← k .before .before .setup-of .ensures, ← k .before .setup .ensures, ← k .number .ensures, ne-eqb _ _ (c .if1 .left))
 
-pub setup-step-spec : {M : Type 1} → statement M
-setup-step-spec =
+pub setup-turn-spec : {M : Type 1} → statement M
+setup-turn-spec =
     tie.close (tie.spec setup-of-requires setup-requires number-requires returns returns-2)

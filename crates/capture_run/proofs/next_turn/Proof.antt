@@ -1,9 +1,9 @@
 -- Each arm is that of the definition. Assumes nothing.
 use borrow.Author.Needs.{needs}
 use mathlib.Core.Path.{refl, sym, _∙_}
-use Rattle.capture_run.specs.Step.{turnBy, turnStorage}
-use Rattle.capture_run.proofs.turn.Statement.{statement}
-use Rattle.capture_run.proofs.turn.Tie as tie
+use Rattle.capture_run.specs.Turn.{turnBy, turnStorage}
+use Rattle.capture_run.proofs.next_turn.Statement.{statement}
+use Rattle.capture_run.proofs.next_turn.Tie as tie
 
 next-field-requires : tie.Need-next-field-requires
 next-field-requires c κs = search needs
@@ -29,8 +29,8 @@ enum-known-next c = search needs
 contents-requires : tie.Need-contents-requires
 contents-requires c κs = search needs
 
-step-of-requires : tie.Need-step-of-requires
-step-of-requires c κs = search needs
+turn-of-requires : tie.Need-turn-of-requires
+turn-of-requires c κs = search needs
 
 returns : tie.Need-returns
 unfolding turnBy turnStorage
@@ -57,10 +57,10 @@ returns-4 : tie.Need-returns-4
 unfolding turnBy turnStorage
 returns-4 c =
     let is = sym (c .before .before .before .before .before .before .before .before .next-field .ensures) ∙ c .before .before .before .before .before .before .next .given .1 in
-    rw (is, ← c .before .before .before .contents .ensures) (c .before .before .step-of .ensures)
+    rw (is, ← c .before .before .before .contents .ensures) (c .before .before .turn-of .ensures)
 
-pub turn-spec : {M : Type 1} → statement M
-turn-spec =
+pub next-turn-spec : {M : Type 1} → statement M
+next-turn-spec =
     tie.close
     (tie.spec
     next-field-requires
@@ -71,7 +71,7 @@ turn-spec =
     end-requires-2
     enum-known-next
     contents-requires
-    step-of-requires
+    turn-of-requires
     returns
     returns-2
     returns-3

@@ -1,7 +1,7 @@
 -- The call on the contents, and its line. Assumes nothing.
 use borrow.Author.Needs.{needs}
-use Rattle.capture_run.proofs.alive_step.Statement.{statement}
-use Rattle.capture_run.proofs.alive_step.Tie as tie
+use Rattle.capture_run.proofs.alive_turn.Statement.{statement}
+use Rattle.capture_run.proofs.alive_turn.Tie as tie
 
 alive-requires : tie.Need-alive-requires
 alive-requires c κs = search needs
@@ -12,5 +12,5 @@ number-requires c κs = search needs
 returns : tie.Need-returns
 returns c = simp (c .number .ensures, c .before .before .alive .ensures)
 
-pub alive-step-spec : {M : Type 1} → statement M
-alive-step-spec = tie.close (tie.spec alive-requires number-requires returns)
+pub alive-turn-spec : {M : Type 1} → statement M
+alive-turn-spec = tie.close (tie.spec alive-requires number-requires returns)
