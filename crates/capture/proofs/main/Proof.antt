@@ -34,14 +34,14 @@ lent-requires c κs = search needs
 array-borrow-prefix-storage : tie.Need-array-borrow-prefix-storage Inv-loop μ-loop
 array-borrow-prefix-storage c = search needs
 
-slice-aggregate-turn : tie.Need-slice-aggregate-turn Inv-loop μ-loop
-slice-aggregate-turn c = sym (length-take-le _ _ (omega (arith, c .before .lent .ensures, c .before .before .before .before .before .before .loop .inv .0)))
+slice-aggregate-next-turn : tie.Need-slice-aggregate-next-turn Inv-loop μ-loop
+slice-aggregate-next-turn c = sym (length-take-le _ _ (omega (arith, c .before .lent .ensures, c .before .before .before .before .before .before .loop .inv .0)))
 
 array-share-prefix-field : tie.Need-array-share-prefix-field Inv-loop μ-loop
 array-share-prefix-field c = search needs
 
-slice-aggregate-turn-2 : tie.Need-slice-aggregate-turn-2 Inv-loop μ-loop
-slice-aggregate-turn-2 c = sym (length-take-le _ _ (omega (arith, c .before .before .before .before .read-field .ensures, c .before .before .before .before .read-field .kept .0, c .before .before .before .before .before .before .before .loop .inv .1)))
+slice-aggregate-next-turn-2 : tie.Need-slice-aggregate-next-turn-2 Inv-loop μ-loop
+slice-aggregate-next-turn-2 c = sym (length-take-le _ _ (omega (arith, c .before .before .before .before .read-field .ensures, c .before .before .before .before .read-field .kept .0, c .before .before .before .before .before .before .before .loop .inv .1)))
 
 next-turn-requires : tie.Need-next-turn-requires Inv-loop μ-loop
 next-turn-requires c κs = search needs
@@ -81,9 +81,9 @@ main-spec =
     read-field-requires
     lent-requires
     array-borrow-prefix-storage
-    slice-aggregate-turn
+    slice-aggregate-next-turn
     array-share-prefix-field
-    slice-aggregate-turn-2
+    slice-aggregate-next-turn-2
     next-turn-requires
     write-line-requires
     returns
