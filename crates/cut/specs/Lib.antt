@@ -6,3 +6,5 @@ pub mod Cutter
 pub mod CutterLaws
 pub mod ReadLaws
 pub mod Edges
+pub mod Printed
+pub mod PrintedLaws

@@ -1,22 +1,25 @@
--- Laws of the header: what was written reads back, and is fixed where Table 7 fixes it. Assumes nothing.
+-- Laws of the header: what was written reads back, and is fixed where Table 7 fixes it; what is fixed there is the
+-- header of what is read. Assumes nothing.
 use mathlib.Core.Path.{_≡_, refl, sym, ap, _∙_}
-use mathlib.Core.Bool.{true}
+use mathlib.Core.Bool.{true, _&&_}
 use mathlib.Core.List.{List, [], _∷_, _++_, append-assoc, append-nil}
 use Prim.Native.Nat.{ℕ, _+_, _^_, _≤_, _<_}
 use native.Mathlib.Nat.{zero-add, le-refl}
 use native.Mathlib.Omega.{arith}
-use lib.ListN.{length, drop, replicate, getD-replicate, length-append, length-drop}
+use lib.ListN.{length, take, drop, replicate, getD-replicate, length-append, length-drop}
 use lib.Seq.{take-at, drop-drop, drop-append-add}
-use borrow.Author.Tests.{le-leb}
+use lib.Dec.{eqb}
+use borrow.Author.Tests.{eqb-true, le-leb}
 use Rattle.octets.specs.Run.{laid}
 use Rattle.octets.specs.RunLaws.{laid-fits}
 use Rattle.octets.specs.NumberLaws.{Octets, number-bound}
+use Rattle.octets.specs.Split.{and-left, and-right}
 use Rattle.header.specs.declared.Head.{Head}
 use Rattle.header.specs.Layout.{Slot, slotOf, slotsOf, layout}
-use Rattle.header.specs.LayoutLaws.{Lit, done, lit, unlit, In, nth-in, fill, fill-layout, layout-slot, length-layout}
-use Rattle.header.specs.Places.{Field, place, headerSize, slots, places-apart, places-end}
+use Rattle.header.specs.LayoutLaws.{Lit, done, lit, unlit, In, nth-in, fill, fill-layout, layout-slot, length-layout, none, more, layout-read}
+use Rattle.header.specs.Places.{Field, place, headerSize, slots, places-apart, places-end, places-cover}
 use Rattle.header.specs.Places.Field.{hType, ml, domain, dataField, node, da, vSeq, seq, mCtl, inqId, tcd, ver, gtid, mode, pver, pri, cbn, tbn, bsize, fui}
-use Rattle.header.specs.Head.{valueAt, value, header, headOf, headed, isFixed}
+use Rattle.header.specs.Head.{valueAt, nuxm, value, header, headOf, headed, isFixed}
 
 -- The slots that are not fixed to 0, which is what is left to lay over 64 octets of 0.
 abbrev pub litSlots : Head → List Slot
@@ -130,6 +133,52 @@ written-fixed h t =
       back pver (omega arith),
       back fui (omega arith),
     )
+
+-- What Table 7 fixes, each by itself.
+pub record Fixed (s : List ℕ) : Type 0 where
+  pub h-type : valueAt s hType ≡ nuxm
+  pub domain-0 : valueAt s domain ≡ 0
+  pub inq-id : valueAt s inqId ≡ 0
+  pub ver-0 : valueAt s ver ≡ 0
+  pub gtid-0 : valueAt s gtid ≡ 0
+  pub pver-1 : valueAt s pver ≡ 1
+  pub fui-0 : valueAt s fui ≡ 0
+
+fixed-facts : (s : List ℕ) → isFixed s ≡ true → Fixed s
+unfolding isFixed
+fixed-facts s e =
+    let a = eqb (valueAt s hType) nuxm in
+    let b = eqb (valueAt s domain) 0 in
+    let c = eqb (valueAt s inqId) 0 in
+    let d = eqb (valueAt s ver) 0 in
+    let f = eqb (valueAt s gtid) 0 in
+    let g = eqb (valueAt s pver) 1 in
+    let h = eqb (valueAt s fui) 0 in
+    let e6 = and-left (a && b && c && d && f && g) h e in
+    let e5 = and-left (a && b && c && d && f) g e6 in
+    let e4 = and-left (a && b && c && d) f e5 in
+    let e3 = and-left (a && b && c) d e4 in
+    let e2 = and-left (a && b) c e3 in
+    record {
+      h-type = eqb-true (valueAt s hType) nuxm (and-left a b e2);
+      domain-0 = eqb-true (valueAt s domain) 0 (and-right a b e2);
+      inq-id = eqb-true (valueAt s inqId) 0 (and-right (a && b) c e3);
+      ver-0 = eqb-true (valueAt s ver) 0 (and-right (a && b && c) d e4);
+      gtid-0 = eqb-true (valueAt s gtid) 0 (and-right (a && b && c && d) f e5);
+      pver-1 = eqb-true (valueAt s pver) 1 (and-right (a && b && c && d && f) g e6);
+      fui-0 = eqb-true (valueAt s fui) 0 (and-right (a && b && c && d && f && g) h e);
+    }
+
+-- A header that holds what Table 7 fixes is that of what is read from it.
+pub fixed-read : (s : List ℕ) → Octets s → headerSize ≤ length s → isFixed s ≡ true → take headerSize s ≡ header (headOf s)
+unfolding header headOf
+fixed-read s o room e =
+    let f = fixed-facts s e in
+    layout-read headerSize (slots (value (headOf s))) s o room
+    (more (sym (f .h-type)) (more refl (more (sym (f .domain-0)) (more refl (more refl (more refl (more refl (more refl (more refl
+    (more (sym (f .inq-id)) (more refl (more (sym (f .ver-0)) (more (sym (f .gtid-0)) (more refl (more (sym (f .pver-1))
+    (more refl (more refl (more refl (more refl (more (sym (f .fui-0)) none))))))))))))))))))))
+    (places-cover (value (headOf s)))
 
 -- A header written at the front, and then a run laid down behind it: both together, laid down as one.
 pub headed-laid : (b : List ℕ) (h : Head) (p : List ℕ) → headerSize + length p ≤ length b

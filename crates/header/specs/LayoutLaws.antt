@@ -1,22 +1,22 @@
--- Laws of layouts, over any slots that do not overlap: what is written slot by slot is the layout, and each slot reads
--- back. Assumes nothing.
+-- Laws of layouts, over any slots that do not overlap: what is written slot by slot is the layout, each slot reads
+-- back, and what is read makes up the octets that it was read from. Assumes nothing.
 use mathlib.Core.Path.{_≡_, refl, sym, ap, _∙_}
 use mathlib.Core.Logic.{_⊎_, inl, inr, ⊎-elim}
 use mathlib.Core.Bool.{Bool, true, false, _||_}
 use mathlib.Core.List.{List, [], _∷_, _++_}
-use Prim.Native.Nat.{ℕ, zero, suc, _+_, _-_, _^_, _≤_, _<_}
+use Prim.Native.Nat.{ℕ, zero, suc, _+_, _-_, _*_, _/_, _%_, _^_, _≤_, _<_}
 use native.Mathlib.Nat.{zero-div, zero-mod}
 use native.Mathlib.Omega.{arith}
 use lib.Dec.{leb, ltb}
-use lib.ListN.{length, drop, length-append, length-drop, List·getD-append}
-use lib.Seq.{ext-getD, getD-at, getD-append-add, getD-drop}
+use lib.ListN.{length, take, drop, length-append, length-take, length-drop, List·getD-append}
+use lib.Seq.{ext-getD, getD-at, getD-append-add, getD-take, getD-drop}
 use borrow.Author.Tests.{leb-true, ltb-true, le-leb, lt-ltb}
 use Rattle.octets.specs.Number.{octet, number, octets}
-use Rattle.octets.specs.NumberLaws.{length-octets, number-ext, number-octets-fits}
+use Rattle.octets.specs.NumberLaws.{Octets, length-octets, number-ext, number-octets-fits}
 use Rattle.octets.specs.Run.{laid}
 use Rattle.octets.specs.RunLaws.{laid-in, laid-out, length-laid}
 use Rattle.octets.specs.Split.{lt-or-le, true-or-false, never-both, both, not-both, and-left, and-right, either}
-use Rattle.header.specs.Layout.{Slot, end, spans, octetOf, tabulate, layout, apartFrom, apart, endsBy}
+use Rattle.header.specs.Layout.{Slot, end, spans, octetOf, tabulate, layout, apartFrom, apart, endsBy, spanned, covers}
 
 -- ---- tabulated lists
 
@@ -333,3 +333,58 @@ layout-slot n r rs t m a b h =
         ∙ octet-layout n rs (r .start + k) (omega arith)
         ∙ octetOf-in (r .start + k) m a (in-slot r (r .start + k) (omega arith) (omega arith))
         ∙ ap (octet (octets (r .size) (r .value))) f
+
+-- ---- what is read makes up what it was read from
+
+octets-number : (w : ℕ) (s : List ℕ) (at k : ℕ) → Octets s → k < w → octet (octets w (number w s at)) k ≡ octet s (at + k)
+unfolding octets number
+octets-number zero s at k o h = absurd (omega arith)
+octets-number (suc w) s at k o h =
+    let small : octet s (at + w) < 256 = o .small (at + w) in
+    let high : (number w s at * 256 + octet s (at + w)) / 256 ≡ number w s at = omega arith in
+    let low : (number w s at * 256 + octet s (at + w)) % 256 ≡ octet s (at + w) = omega arith in
+    rw (high, low) (⊎-elim
+    (λ (l : k < w).
+    List·getD-append (octets w (number w s at)) (octet s (at + w) ∷ []) 0 k (omega (arith, length-octets w (number w s at)))
+    ∙ octets-number w s at k o l)
+    (λ (l : w ≤ k).
+    let e : k ≡ w = omega arith in
+    rw e (getD-at (octets w (number w s at)) (octet s (at + w)) [] 0 w (length-octets w (number w s at))))
+    (lt-or-le k w))
+
+-- Each slot has the number that is read at its place.
+pub data Read (s : List ℕ) : List Slot → Type 0 where
+  none : Read s []
+  more : {r : Slot} {rs : List Slot} → r .value ≡ number (r .size) s (r .start) → Read s rs → Read s (r ∷ rs)
+
+octetOf-read : {s : List ℕ} {rs : List Slot} (i : ℕ) → Octets s → Read s rs → spanned rs i ≡ true → octetOf rs 0 i ≡ octet s i
+unfolding spanned
+octetOf-read i o none e = absurd (never-both e refl)
+octetOf-read {s} i o (more {r = r} {rs = rs} is rest) e = ⊎-elim
+    (λ (h : spans r i ≡ true).
+    let a = spans-from r i h in
+    let b = spans-to r i h in
+    let f : r .start + (i - r .start) ≡ i = omega arith in
+    octetOf-spanned r rs 0 i h ∙ ap (λ (x : ℕ). octet (octets (r .size) x) (i - r .start)) is
+    ∙ octets-number (r .size) s (r .start) (i - r .start) o (omega arith) ∙ ap (octet s) f)
+    (λ (h : spans r i ≡ false). octetOf-past r rs 0 i h ∙ octetOf-read i o rest (rw h at e))
+    (true-or-false (spans r i))
+
+covers-all : (n : ℕ) (rs : List Slot) (i : ℕ) → covers n rs ≡ true → i < n → spanned rs i ≡ true
+unfolding covers
+covers-all zero rs i e h = absurd (omega arith)
+covers-all (suc n) rs i e h = ⊎-elim
+    (λ (l : i < n). covers-all n rs i (and-left (covers n rs) (spanned rs n) e) l)
+    (λ (l : n ≤ i). let f : i ≡ n = omega arith in rw f (and-right (covers n rs) (spanned rs n) e))
+    (lt-or-le i n)
+
+pub layout-read : (n : ℕ) (rs : List Slot) (s : List ℕ) → Octets s → n ≤ length s → Read s rs → covers n rs ≡ true → take n s ≡ layout n rs
+layout-read n rs s o room is all = ext-getD 0 (take n s) (layout n rs) (long ∙ sym (length-layout n rs)) same
+  where
+    long : length (take n s) ≡ n
+    long = length-take n s ∙ omega arith
+
+    same : (i : ℕ) → i < length (take n s) → octet (take n s) i ≡ octet (layout n rs) i
+    same i h =
+        let l : i < n = omega (arith, long) in
+        getD-take n s i 0 l ∙ sym (octetOf-read i o is (covers-all n rs i all l)) ∙ sym (octet-layout n rs i l)

@@ -5,3 +5,5 @@ pub mod LayoutLaws
 pub mod Places
 pub mod Head
 pub mod HeadLaws
+pub mod Printed
+pub mod PrintedLaws

@@ -7,7 +7,7 @@ use native.Mathlib.Nat.{div-one, div-eq-of-lt, min-zero, mod-eq-of-lt, mod-lt, o
 use native.Mathlib.Numerals.{one-add}
 use native.Mathlib.Omega.{arith}
 use lib.Bits.{bitAnd, bitOr, and-step, and-zero-r, and-mask, or-disjoint}
-use lib.Count.{ones, ones-step, trailingZeros}
+use lib.Count.{ones, ones-step, ones-ones, ones-le, trailingZeros}
 use lib.Dec.{eqb, leb, ltb}
 use lib.Pow.{pow-pos, pow-mono, pow-lt, shr-shr, split, high, ones-split, ones-lt}
 use borrow.Author.Tests.{eqb-true, eqb-false, eq-eqb, ne-eqb, le-leb, lt-leb, leb-false, lt-ltb, le-ltb, not-true}
@@ -108,6 +108,21 @@ piece-some (suc n) m h some = ⊎-elim
     (λ (e : m % 2 ≡ 0). let r = piece-some n (m / 2) (omega arith) (omega arith) in (suc (r .0), omega (arith, r .1), r .2))
     (λ (e : m % 2 ≢ 0). (0, omega arith, omega arith))
     (eq-or-ne (m % 2) 0)
+
+-- A map of t pieces is full exactly if it has t ones.
+all-ones : (t m : ℕ) → m < 2 ^ t → ones m ≡ t → m ≡ 2 ^ t - 1
+all-ones zero m less e = omega (arith, less)
+all-ones (suc t) m less e =
+    let half : m / 2 < 2 ^ t = omega (arith, less) in
+    let most = ones-le t (m / 2) half in
+    let step = ones-step m in
+    let rest = all-ones t (m / 2) half (omega (arith, e, most, step)) in
+    omega (arith, e, most, step, rest, pow-pos t)
+
+pub full-ones : (t m : ℕ) → m < 2 ^ t → eqb m (fullMap t) ≡ eqb (ones m) t
+full-ones t m less = same-test (eqb m (fullMap t)) (eqb (ones m) t)
+    (λ e. eq-eqb (ones m) t (ap ones (eqb-true m (fullMap t) e) ∙ ones-ones t))
+    (λ e. eq-eqb m (fullMap t) (all-ones t m less (eqb-true (ones m) t e)))
 
 -- ---- empty, full or marked past
 

@@ -3,3 +3,5 @@ pub mod RingLaws
 pub mod Check
 pub mod CheckLaws
 pub mod Table14
+pub mod Printed
+pub mod PrintedLaws
