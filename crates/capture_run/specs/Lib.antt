@@ -1,1 +1,3 @@
 pub mod Turn
+pub mod Run
+pub mod RunLaws
