@@ -49,7 +49,7 @@ outcomeTold (outcome.Refused k) = notDelivered k
 outcomeTold outcome.Stored = notDelivered 0
 outcomeTold (outcome.Delivered v) = deliveredAs v
 
--- What is delivered has a verdict of 1 to 5.
+-- What is delivered has a verdict.
 abbrev pub HasVerdict : OutcomeTold → Type 0
 HasVerdict t = t .number ≡ 1 → 1 ≤ t .verdict
 

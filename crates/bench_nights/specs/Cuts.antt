@@ -5,7 +5,7 @@ use lib.ListN.{length}
 use Rattle.header.specs.declared.Given.{Given}
 use Rattle.cut.specs.declared.cutter.Cutting.{Cutting}
 use Rattle.cut.specs.Cutter.{cutterAnswer, cutterBuffer, cutterTold}
-use Rattle.rules.specs.promised.Needed.{headed}
+use Rattle.promised.specs.Needed.{headed}
 
 -- The header values of the first sender's message with this number.
 abbrev pub givenOf : ℕ → Given

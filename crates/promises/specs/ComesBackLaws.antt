@@ -2,69 +2,50 @@
 use Prim.Native.Nat.{ℕ, _+_, _≤_}
 use mathlib.Core.Path.{_≡_, refl, sym, ap, subst, _∙_}
 use mathlib.Core.Logic.{⊎-elim, inl, inr}
-use mathlib.Core.Bool.{Bool, true, false, cond, _&&_}
+use mathlib.Core.Bool.{true}
 use mathlib.Core.List.{List, [], _∷_, map, List·Memᴰ, List·Memᴰ·head, List·Memᴰ·tail, List·Memᴰ·cases-cons, List·Memᴰ·not-nil}
 use native.Mathlib.Omega.{arith}
-use lib.Dec.{eqb, leb}
 use lib.ListN.{length}
-use borrow.Author.Tests.{le-leb}
 use Rattle.octets.specs.Run.{run, laid}
 use Rattle.octets.specs.RunLaws.{run-laid}
-use Rattle.octets.specs.Split.{cond-case, both}
-use Rattle.ring.specs.declared.Number.{Number}
-use Rattle.ring.specs.declared.Version.{Version}
-use Rattle.ring.specs.declared.Verdict.{Verdict}
-use Rattle.ring.specs.declared.Verdict.the-variants.{Unchecked, First}
-use Rattle.ring.specs.Check.{check, isRepeat}
 use Rattle.header.specs.declared.Given.{Given}
-use Rattle.header.specs.Places.{headerSize}
 use Rattle.cut.specs.declared.cutter.Cutting.{Cutting}
-use Rattle.cut.specs.declared.cutter.Cutting.the-variants as cutting
-use Rattle.cut.specs.Cutter.{Words, cuts, cutterAnswer, cutterBuffer, pdu, CutterTold, cutterTold}
-use Rattle.cut.specs.CutterLaws.{Within, length-pdu}
-use Rattle.cut.specs.Pieces.{leastUnit, mostUnit, pieceLength}
-use Rattle.cut.specs.Possible.{isUnit}
+use Rattle.cut.specs.Cutter.{Words, cuts, cutterBuffer, cutterAnswer, pdu, cutterTold}
+use Rattle.cut.specs.CutterLaws.{Within, length-pdu, within-short}
 use Rattle.cut.specs.ReadLaws.{cuts-within, cuts-room}
-use Rattle.state.specs.declared.Sender.{Sender}
-use Rattle.state.specs.State.{noLast}
-use Rattle.rules.specs.promised.CutPiecesLaws.{cuts-piece}
-use Rattle.rules.specs.promised.Delivery.{sentBy, Sent, PieceOf, Came, May, Between, OnlyPieces, verdictFor}
-use Rattle.answers.specs.Told.{deliveredAs}
-use Rattle.rules.specs.pasts.Past.{World, Event, message, step, after}
-use Rattle.rules.specs.pasts.PastLaws.{start-sender}
-use Rattle.rules.specs.promised.PieceLaws.{Cuttable, piece-number}
-use Rattle.promises.specs.CourseLaws.{course-start}
-use Rattle.promises.specs.Demands.{CutterWrote, ComesBack}
+use Rattle.rules.specs.pasts.Past.{Event, message, Answers}
+use Rattle.promised.specs.CutPiecesLaws.{cuts-piece}
+use Rattle.promised.specs.Delivery.{sentBy, Sent, PieceOf, Came, Between, OnlyPieces}
+use Rattle.promised.specs.Log.{toldBy, Exchange, exchange, logged}
+use Rattle.promised.specs.PieceLaws.{Cuttable, piece-number}
+use Rattle.cut.specs.PrintedLaws.{limits-cut}
+use Rattle.promises.specs.Demands.{Cut, ComesBack}
 use Rattle.promises.specs.DemandsLaws.{delivers}
 
 -- ---- what the cutter wrote is a piece
 
-module _ (g : Given) (octets : List ℕ) (u c : ℕ) (packet : List ℕ) (wrote : CutterWrote g octets u c packet) where
+module _ (g : Given) (octets : List ℕ) (u c : ℕ) (packet : List ℕ) (cut : Cut g octets u c packet) where
   abbrev room : ℕ
-  room = length (wrote .buffer)
+  room = length (cut .buffer)
 
-  is-written : (b : Bool) → cutterTold (cond {A = Cutting} b (cutting.Written (headerSize + pieceLength (length octets) u c)) cutting.Refused) ≡ record { number = 0; length = length packet }
-      → (b ≡ true) × (length packet ≡ headerSize + pieceLength (length octets) u c)
-  is-written true e = (refl, sym (ap (λ (t : CutterTold). t .length) e))
-  is-written false e = absurd (omega (arith, ap (λ (t : CutterTold). t .number) e))
-
-  answer-facts : (cuts g octets u c room ≡ true) × (length packet ≡ headerSize + pieceLength (length octets) u c)
-  unfolding cutterAnswer
-  answer-facts = is-written (cuts g octets u c room) (sym (ap cutterTold (wrote .cut .answered)) ∙ wrote .written)
-
-  pub its-limits : Within (length octets) u c
-  its-limits = cuts-within g octets u c room (answer-facts .0)
+  it-cuts : cuts g octets u c room ≡ true
+  it-cuts =
+      let l = cut .limits in
+      let within : Within (length octets) u c = record { big = l .octets; low = l .unit .0; high = l .unit .1; first = l .piece .0; last = l .piece .1 } in
+      limits-cut g octets u c room l (omega (arith, cut .room, within-short (length octets) u c within))
 
   packet-is : packet ≡ pdu g octets u c
-  unfolding cutterBuffer run
+  unfolding cutterAnswer cutterBuffer run
   packet-is =
-      let long : length packet ≡ length (pdu g octets u c) = answer-facts .1 ∙ sym (length-pdu g octets u c its-limits) in
-      let fits : 0 + length (pdu g octets u c) ≤ room = omega (arith, length-pdu g octets u c its-limits, cuts-room g octets u c room (answer-facts .0)) in
-      let left-is : wrote .left ≡ laid (wrote .buffer) 0 (pdu g octets u c) = wrote .cut .written ∙ rw (answer-facts .0) in
-      wrote .begins ∙ rw (long, left-is) (run-laid (wrote .buffer) 0 (pdu g octets u c) fits)
+      let within = cuts-within g octets u c room it-cuts in
+      let long = length-pdu g octets u c within in
+      let fits : 0 + length (pdu g octets u c) ≤ room = omega (arith, long, cuts-room g octets u c room it-cuts) in
+      let told : cutterTold (cut .answer) .length ≡ length (pdu g octets u c) = ap (λ (x : Cutting). cutterTold x .length) (cut .called .answered) ∙ rw it-cuts (sym long) in
+      let left-is : cut .left ≡ laid (cut .buffer) 0 (pdu g octets u c) = cut .called .written ∙ rw it-cuts in
+      cut .begins ∙ rw (told, left-is) (run-laid (cut .buffer) 0 (pdu g octets u c) fits)
 
-  pub written-piece : Words g → PieceOf (sentBy g octets u) c packet
-  written-piece words = subst (PieceOf (sentBy g octets u) c) (sym packet-is) (cuts-piece g octets u c room (answer-facts .0) words)
+  pub cut-piece : Words g → PieceOf (sentBy g octets u) c packet
+  cut-piece words = subst (PieceOf (sentBy g octets u) c) (sym packet-is) (cuts-piece g octets u c room it-cuts words)
 
 -- ---- its pieces arrive
 
@@ -72,9 +53,13 @@ module _ (m : Sent) (i : ℕ) (packets : ℕ → List ℕ) where
   abbrev arrive : List ℕ → List Event
   arrive = map (λ c. message (packets c))
 
-  only-its : (w : World) (order : List ℕ) → ((c : ℕ) → List·Memᴰ c order → PieceOf m c (packets c)) → Between (OnlyPieces m) m i w (arrive order)
-  only-its w [] are = tt
-  only-its w (c ∷ order) are = (λ mine. (c, are c (List·Memᴰ·head refl)), only-its (step w (message (packets c))) order (λ d there. are d (List·Memᴰ·tail there)))
+  only-its : (log : List Exchange) (order : List ℕ) → ((c : ℕ) → List·Memᴰ c order → PieceOf m c (packets c)) → (rs : Answers (arrive order))
+      → Between (OnlyPieces m) m i log (arrive order) rs
+  only-its log [] are rs = tt
+  only-its log (c ∷ order) are rs = (
+    λ mine. (c, are c (List·Memᴰ·head refl)),
+    only-its (exchange (message (packets c)) (toldBy (message (packets c)) (rs .0)) ∷ log) order (λ d there. are d (List·Memᴰ·tail there)) (rs .1),
+  )
 
   its-came : (order : List ℕ) → ((c : ℕ) → List·Memᴰ c order → PieceOf m c (packets c)) → (c : ℕ) → List·Memᴰ c order → Came m c (arrive order)
   its-came [] are c there = absurd (List·Memᴰ·not-nil there)
@@ -90,32 +75,12 @@ module _ (m : Sent) (i : ℕ) (packets : ℕ → List ℕ) where
       (λ rest. List·Memᴰ·tail (came-its k order (λ x more. are x (List·Memᴰ·tail more)) c rest))
       came
 
--- Nothing was delivered before, so nothing is a repeat.
-no-repeat-first : (n1 : ℕ) (v : Version) (s : Number) → isRepeat (check n1 (noLast .version) (noLast .number) v s) ≡ false
-unfolding check
-no-repeat-first n1 v s = cond-case (λ (x : Verdict). isRepeat x ≡ false) (eqb (v .0) 0 && eqb (s .0) 1) Unchecked First (λ _. refl) (λ _. refl)
-
 pub comes-back : ComesBack
-unfolding after
-comes-back q r w meets g words octets u i here address admits packets wrote order last any rs v course a x meets-last =
+comes-back q r w meets past ps v course g words octets u i may packets cut order last any rs x since a y meets-last =
     let m = sentBy g octets u in
-    let start = course-start q r w meets in
-    let is = start-sender w start i here in
-    let within = its-limits g octets u last (packets last) (wrote last (any .is-piece)) in
-    let wide : isUnit u ≡ true = both (leb leastUnit u) (leb u mostUnit) (le-leb leastUnit u (within .low)) (le-leb u mostUnit (within .high)) in
-    let k : Cuttable m = record { most = within .big; wide = wide } in
-    let are : (c : ℕ) → List·Memᴰ c order → PieceOf m c (packets c) = λ c there. written-piece g octets u c (packets c) (wrote c (any .pieces c there)) words in
-    let last-is = written-piece g octets u last (packets last) (wrote last (any .is-piece)) words in
-    let may : May m i [] w = record {
-      here = here;
-      registered = address;
-      length-within = within .big;
-      unit-within = wide;
-      unheard = λ p none. absurd (List·Memᴰ·not-nil none);
-      no-repeat = rw is (no-repeat-first (w .state .n1) (m .version) (m .number));
-      none-larger = rw is;
-      admits = admits;
-    } in
-    let arrives = delivers q r w meets [] tt w refl m i may (arrive m i packets order) rs v course (only-its m i packets w order are) last (packets last) last-is a x meets-last in
-    let got = arrives .0 .delivered (λ came. any .missing (came-its m i packets k order are last came), λ d numbered ne. its-came m i packets order are d (any .others d numbered ne)) in
-    (got .0 ∙ ap (λ (s : Sender). deliveredAs (verdictFor (w .state .n1) m (s .last))) is, got .1)
+    let k : Cuttable m = record { most = may .length-within; wide = may .unit-within } in
+    let are : (c : ℕ) → List·Memᴰ c order → PieceOf m c (packets c) = λ c there. cut-piece g octets u c (packets c) (cut c (any .pieces c there)) words in
+    let last-is = cut-piece g octets u last (packets last) (cut last (any .is-piece)) words in
+    let between = only-its m i packets (logged [] past ps) order are rs in
+    let arrives = delivers q r w meets past ps v course m i may (arrive m i packets order) rs x since between last (packets last) last-is a y meets-last in
+    arrives .0 .delivered (λ came. any .missing (came-its m i packets k order are last came), λ d numbered ne. its-came m i packets order are d (any .others d numbered ne))

@@ -24,6 +24,8 @@ use Rattle.rules.specs.calls.Part.{partOf}
 use Rattle.rules.specs.pasts.Past.{World, Event, message, alive, clock, aside, question, Said, Answers}
 use Rattle.rules.specs.calls.Question.{questionAnswer}
 use Rattle.rules.specs.calls.Setup.{setupAnswer}
+use Rattle.tally.specs.declared.Tally.{Tally}
+use Rattle.tally.specs.Tally.{counted}
 
 abbrev pub world : Receiver → List ℕ → World
 world state storage = record { state = state; storage = storage }
@@ -42,6 +44,12 @@ pub record MessageMeets (w : World) (packet : List ℕ) (r : Answer) (v : World)
   pub stored : v .storage ≡ messageStorage (w .state) (w .storage) packet
   pub handed-on : v .state ≡ r .state
 
+-- "The maintenance tally is one record of the caller's, counted up where it stands": the message call with a tally
+-- lent, which was t when the call was made and is s when it has answered.
+pub record TallyMeets (t : Tally) (w : World) (packet : List ℕ) (r : Answer) (s : Tally) (v : World) : Type 0 where
+  pub called : MessageMeets w packet r v
+  pub tallied : s ≡ counted t (r .outcome)
+
 pub record PartMeets (place : Where) (packet storage part : List ℕ) : Type 0 where
   pub handed-over : part ≡ partOf place packet storage
 
@@ -51,8 +59,8 @@ pub record AliveMeets (w : World) (packet : List ℕ) (r : Noted) (v : World) : 
   pub stays : v .storage ≡ w .storage
   pub handed-on : v .state ≡ r .state
 
-pub record ClockMeets (w : World) (now : ℕ) (r : Ticked) (v : World) : Type 0 where
-  pub answered : r ≡ clockAnswer (w .state) now
+pub record ClockMeets (w : World) (ms : ℕ) (r : Ticked) (v : World) : Type 0 where
+  pub answered : r ≡ clockAnswer (w .state) ms
   pub stays : v .storage ≡ w .storage
   pub handed-on : v .state ≡ r .state
 
@@ -72,7 +80,7 @@ pub record CutterMeets (g : Given) (m : List ℕ) (u c : ℕ) (buffer : List ℕ
 abbrev pub Meets : (w : World) (e : Event) → Said e → World → Type 0
 Meets w (message packet) r v = MessageMeets w packet (r .0) v × PartMeets (r .0 .lies) packet (v .storage) (r .1)
 Meets w (alive packet) r v = AliveMeets w packet r v
-Meets w (clock now) r v = ClockMeets w now r v
+Meets w (clock ms) r v = ClockMeets w ms r v
 Meets w (aside question) r v = QuestionMeets w r v
 
 -- Calls from the world w on, in the order of time, "each given the state and storage that the one before left"; v is

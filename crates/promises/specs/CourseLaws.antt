@@ -13,13 +13,14 @@ use Rattle.answers.specs.declared.Setup.{Setup}
 use Rattle.answers.specs.declared.Started.{Started}
 use Rattle.answers.specs.declared.Ticked.{Ticked}
 use Rattle.rules.specs.calls.Part.{partOf}
+use Rattle.rules.specs.calls.Setup.{setupAnswer}
 use Rattle.rules.specs.pasts.Past.{World, Event, message, alive, clock, aside, question, step, after, Said, said, Answers, answers, Start}
 use Rattle.rules.specs.pasts.PastLaws.{Sound, past-sound}
 use Rattle.promises.specs.Course.{world, SetupMeets, MessageMeets, CutterMeets, Meets, Course, Leads, messagesOf}
 
 -- ---- one call
 
-same-world : {v : World} {state : Receiver} {storage : List ℕ} → v .state ≡ state → v .storage ≡ storage → v ≡ world state storage
+pub same-world : {v : World} {state : Receiver} {storage : List ℕ} → v .state ≡ state → v .storage ≡ storage → v ≡ world state storage
 same-world {v} {state} {storage} e f = ap (λ (x : Receiver). world x (v .storage)) e ∙ ap (world state) f
 
 same-said : {r : Answer × List ℕ} {answer : Answer} {part : List ℕ} → r .0 ≡ answer → r .1 ≡ part → r ≡ (answer, part)
@@ -96,8 +97,13 @@ same-start q r t w u m n same =
     let is = one-answer (m .answered) (n .answered) in
     (is, same-world (m .handed-on ∙ ap (λ (x : Started). x .state) is ∙ sym (n .handed-on)) same)
 
-pub course-start : (q : Setup) (r : Started) (w : World) → SetupMeets q r w → Start w
+abbrev pub course-start : (q : Setup) (r : Started) (w : World) → SetupMeets q r w → Start w
 course-start q r w m = record { given = q; state = m .handed-on ∙ ap (λ (x : Started). x .state) (m .answered); room = m .room }
+
+-- Such a world is what a setup gave: so what is promised of courses from a setup on is promised of every past of
+-- `rules`, by `a-course`.
+pub start-course : (w : World) (s : Start w) → SetupMeets (s .given) (setupAnswer (s .given)) w
+start-course w s = record { answered = refl; handed-on = s .state; room = s .room }
 
 -- What `rules` proves of every past is so of every course from a setup on, here that the state stays valid and the
 -- storage keeps its size.

@@ -1,40 +1,47 @@
 -- The user's three demands, clause by clause, each as a statement about every program whose calls meet the public
--- contracts (Course.antt). The words that they are written in stand in `rules`: Past, Accepted and Join (safety),
--- Delivery, AlivePast. Proved in Kept.antt.
+-- contracts (Course.antt). The words that they are written in stand in `promised`: Log and Says (what is said by setup
+-- and calls alone), Join (safety), Delivery, AlivePast; and here in AsPrinted and Counted. No state is named but where
+-- any state may come. Proved in Kept.antt.
 --
 -- Of demand 1, "Nothing is read or written outside what was lent, and every call ends" is what the proof of every
--- function shows, contract or not; of demand 2, that header, number check and cut are the paper's is shown beside their
--- definitions, in `header`, `ring` and `cut`.
-use Prim.Native.Nat.{ℕ, _<_}
+-- function shows, contract or not.
+use Prim.Native.Nat.{ℕ, _≤_, _<_}
 use mathlib.Core.Path.{_≡_}
 use mathlib.Core.Logic.{_≢_}
-use mathlib.Core.Bool.{true, false, not, _&&_}
+use mathlib.Core.Bool.{true, not}
 use mathlib.Core.List.{List, [], _∷_, map, List·Memᴰ}
-use lib.Dec.{eqb}
 use lib.ListN.{length, take}
+use Rattle.ring.specs.Printed.{CheckAsPrinted}
 use Rattle.header.specs.declared.Given.{Given}
 use Rattle.header.specs.Head.{headOf}
+use Rattle.header.specs.Printed.{HeaderAsPrinted}
 use Rattle.cut.specs.declared.cutter.Cutting.{Cutting}
 use Rattle.cut.specs.Cutter.{Words, cuts, cutterTold}
 use Rattle.cut.specs.Edges.{all, edges}
-use Rattle.state.specs.Limits.{addressAt}
-use Rattle.state.specs.State.{noLast, senderAt, emptyReceiver}
+use Rattle.cut.specs.Printed.{Limits, CutsAsPrinted, PossibleAsPrinted}
+use Rattle.state.specs.Limits.{given}
+use Rattle.state.specs.State.{emptyReceiver}
 use Rattle.state.specs.Table.{source}
 use Rattle.answers.specs.declared.Setup.{Setup}
 use Rattle.answers.specs.declared.Started.{Started}
-use Rattle.answers.specs.Told.{RefusedAs, deliveredAs, HasVerdict, messageTold, messageRefused, callNumber, clockTold, clockRefused, questionTold, noneOpen, OutcomeTells, CallTells, MissingTells}
-use Rattle.rules.specs.promised.Accepted.{acceptedWith, acceptedIn}
+use Rattle.answers.specs.Told.{RefusedAs, deliveredAs, HasVerdict, nothingHanded, messageTold, messageRefused, callNumber, clockTold, clockRefused, questionTold, noneOpen, OutcomeTells, CallTells, MissingTells}
 use Rattle.rules.specs.calls.Alive.{aliveRows}
-use Rattle.rules.specs.promised.AlivePast.{AliveBy}
 use Rattle.rules.specs.calls.Clock.{clockRows}
-use Rattle.rules.specs.promised.Delivery.{Sent, sentBy, Numbered, PieceOf, May, Between, OnlyPieces, verdictFor, OneApplies, Arrives, Once}
 use Rattle.rules.specs.calls.First.{Row, row}
 use Rattle.rules.specs.calls.First as rows
-use Rattle.rules.specs.promised.Join.{Joined}
 use Rattle.rules.specs.calls.Message.{messageRows}
-use Rattle.rules.specs.pasts.Past.{World, Event, message, alive, clock, aside, question, Said, Answers}
 use Rattle.rules.specs.calls.Question.{questionRows}
 use Rattle.rules.specs.calls.Setup.{setupWithin}
+use Rattle.rules.specs.pasts.Listings.{Name}
+use Rattle.rules.specs.pasts.Listings as listings
+use Rattle.rules.specs.pasts.Past.{World, Event, message, alive, clock, aside, question, Said, Answers}
+use Rattle.promised.specs.AlivePast.{AliveBy}
+use Rattle.promised.specs.Delivery.{Sent, sentBy, Numbered, PieceOf, May, Between, OnlyPieces, verdictFor, OneApplies, Arrives, Once, Listed}
+use Rattle.promised.specs.Join.{Joined}
+use Rattle.promised.specs.Log.{toldBy, Exchange, logged, deliveries, acceptedWith, openOf, lifeOf}
+use Rattle.promised.specs.Says.{sendersOf, placeOf, says, logOf}
+use Rattle.promises.specs.AsPrinted.{CuttingAsPrinted}
+use Rattle.promises.specs.Counted.{TalliedIsCourse, OneCounted, AllCounted}
 use Rattle.promises.specs.Course.{Meets, Course, SetupMeets, CutterMeets}
 
 -- ---- demand 1
@@ -43,14 +50,14 @@ use Rattle.promises.specs.Course.{Meets, Course, SetupMeets, CutterMeets
 abbrev pub numberIn : (e : Event) → Said e → ℕ
 numberIn (message packet) r = messageTold (r .0) .outcome .number
 numberIn (alive packet) r = callNumber (r .call)
-numberIn (clock now) r = clockTold r .number
+numberIn (clock ms) r = clockTold r .number
 numberIn (aside question) r = questionTold r .number
 
 -- and that nothing more was than number k: "any other answer gives an empty part", "(both 0 on a refusal)".
 abbrev pub NothingMore : (e : Event) → Said e → ℕ → Type 0
 NothingMore (message packet) r k = (messageTold (r .0) ≡ messageRefused k) × (r .1 ≡ [])
 NothingMore (alive packet) r k = callNumber (r .call) ≡ k
-NothingMore (clock now) r k = clockTold r ≡ clockRefused k
+NothingMore (clock ms) r k = clockTold r ≡ clockRefused k
 NothingMore (aside question) r k = questionTold r ≡ noneOpen k
 
 -- Number k was answered, and is a refusal's.
@@ -61,7 +68,7 @@ RefusedWith e r = RefusedAs (numberIn e r)
 abbrev pub rowsOf : World → Event → List Row
 rowsOf w (message packet) = messageRows (w .state) (length (w .storage)) packet
 rowsOf w (alive packet) = aliveRows (w .state) packet
-rowsOf w (clock now) = clockRows (w .state) now
+rowsOf w (clock ms) = clockRows (w .state) ms
 rowsOf w (aside question) = questionRows (w .state)
 
 -- "Bad input meets the numbered refusal that the papers fix": of the number that was answered, that it is a refusal's
@@ -92,7 +99,7 @@ CutterRefuses = (g : Given) (m : List ℕ) (u c : ℕ) (buffer : List ℕ) (r : 
 abbrev pub Tells : (e : Event) → Said e → Type 0
 Tells (message packet) r = OutcomeTells (r .0 .outcome)
 Tells (alive packet) r = CallTells (r .call)
-Tells (clock now) r = CallTells (r .call)
+Tells (clock ms) r = CallTells (r .call)
 Tells (aside question) r = MissingTells r
 
 abbrev pub NumbersTell : Type 0
@@ -104,24 +111,44 @@ abbrev pub VerdictTold : Type 0
 VerdictTold = (w : World) (packet : List ℕ) (r : Said (message packet)) (v : World) → Meets w (message packet) r v
     → HasVerdict (messageTold (r .0) .outcome)
 
--- What is said of the calls after any past.
-abbrev pub AfterPast : ((w : World) (es : List Event) → Answers es → World → Type 0) → Type 0
-AfterPast P = (q : Setup) (r : Started) (w : World) → SetupMeets q r w → (es : List Event) (rs : Answers es) (v : World) → Course w es rs v → P w es rs v
+-- Any other outcome than a delivery hands over nothing: "any other answer gives an empty part".
+abbrev pub NothingHanded : Type 0
+NothingHanded = (w : World) (packet : List ℕ) (r : Said (message packet)) (v : World) → Meets w (message packet) r v
+    → messageTold (r .0) .outcome .number ≢ 1 → (messageTold (r .0) .lies ≡ nothingHanded) × (r .1 ≡ [])
+
+-- What is said of the calls after any past, by setup's arguments q and the log of the calls since.
+abbrev pub AfterPast : (Setup → List Exchange → World → Type 0) → Type 0
+AfterPast P = (q : Setup) (r : Started) (w : World) → SetupMeets q r w
+    → (es : List Event) (rs : Answers es) (v : World) → Course w es rs v → P q (logged [] es rs) v
 
 -- No past meets 9 or 11.
 abbrev pub NeverNine : Type 0
-NeverNine = AfterPast (λ w es rs v. (e : Event) (r : Said e) (u : World) → Meets v e r u → ¬ (RefusedWith e r 9) × ¬ (RefusedWith e r 11))
+NeverNine = AfterPast (λ q log v. (e : Event) (r : Said e) (u : World) → Meets v e r u → ¬ (RefusedWith e r 9) × ¬ (RefusedWith e r 11))
+
+-- ---- what a receiver says
+
+-- After any past every call is told what `says` says: 01's rules over setup's arguments and the log, with no state in
+-- them.
+abbrev pub EverySaid : Type 0
+EverySaid = AfterPast (λ q log v. (e : Event) (r : Said e) (u : World) → Meets v e r u → toldBy e r ≡ says q log e)
+
+-- So all that was told is a function of setup's arguments and the calls. What the storage began with has no part in it.
+abbrev pub LogIs : Type 0
+LogIs = (q : Setup) (r : Started) (w : World) → SetupMeets q r w → (es : List Event) (rs : Answers es) (v : World) → Course w es rs v
+    → logged [] es rs ≡ logOf q [] es
 
 -- ---- demand 2
 
--- A PDU that our cutter wrote: as many octets as it answered, from the beginning of the buffer.
-pub record CutterWrote (g : Given) (octets : List ℕ) (u c : ℕ) (packet : List ℕ) : Type 0 where
+-- The cutter was called for piece c, within its limits and with a buffer in which any PDU has room, and this is what it
+-- answered: as many octets as it told, from the beginning of what it left.
+pub record Cut (g : Given) (octets : List ℕ) (u c : ℕ) (packet : List ℕ) : Type 0 where
+  pub limits : Limits g (length octets) u c
   pub buffer : List ℕ
+  pub room : 1460 ≤ length buffer
   pub left : List ℕ
   pub answer : Cutting
-  pub cut : CutterMeets g octets u c buffer answer left
-  pub written : cutterTold answer ≡ record { number = 0; length = length packet }
-  pub begins : packet ≡ take (length packet) left
+  pub called : CutterMeets g octets u c buffer answer left
+  pub begins : packet ≡ take (cutterTold answer .length) left
 
 -- The pieces of a message in any order: first these, some of them more than once, and then the last missing one.
 pub record AnyOrder (m : Sent) (order : List ℕ) (last : ℕ) : Type 0 where
@@ -131,23 +158,23 @@ pub record AnyOrder (m : Sent) (order : List ℕ) (last : ℕ) : Type 0 where
   pub others : (c : ℕ) → Numbered m c → c ≢ last → List·Memᴰ c order
 
 -- "Cut by our sender and joined by our receiver, a message of 0 to 16,384 octets comes back the same": with any header
--- values and any u that the cutter takes, at a receiver set up with that sender. `Words` says that the values are of
--- their types.
+-- values within their limits and any u, after any past that demand 3 admits. `Words` says that the values are of their
+-- types.
 abbrev pub ComesBack : Type 0
-ComesBack = (q : Setup) (r : Started) (w : World) → SetupMeets q r w
-    → (g : Given) → Words g → (octets : List ℕ) (u : ℕ)
-    → (i : ℕ) → i < w .state .count → addressAt (w .state .senders) i ≡ sentBy g octets u .address → eqb (g .mode) 1 && not (w .state .test) ≡ false
-    → (packets : ℕ → List ℕ) → ((c : ℕ) → Numbered (sentBy g octets u) c → CutterWrote g octets u c (packets c))
+ComesBack = AfterPast (λ q log v. (g : Given) → Words g → (octets : List ℕ) (u : ℕ)
+    → (i : ℕ) → May q log (sentBy g octets u) i
+    → (packets : ℕ → List ℕ) → ((c : ℕ) → Numbered (sentBy g octets u) c → Cut g octets u c (packets c))
     → (order : List ℕ) (last : ℕ) → AnyOrder (sentBy g octets u) order last
     → let es = map (λ c. message (packets c)) order in
-    (rs : Answers es) (v : World) → Course w es rs v → (a : Said (message (packets last))) (x : World) → Meets v (message (packets last)) a x
-    → (messageTold (a .0) .outcome ≡ deliveredAs (verdictFor (w .state .n1) (sentBy g octets u) noLast)) × (a .1 ≡ octets)
+    (rs : Answers es) (x : World) → Course v es rs x → (a : Said (message (packets last))) (y : World) → Meets x (message (packets last)) a y
+    → (messageTold (a .0) .outcome ≡ deliveredAs (verdictFor q log (sentBy g octets u))) × (a .1 ≡ octets))
 
--- "the judging of alive signals": who is alive after a past is what the past alone says.
+-- "the judging of alive signals": who is alive by what the calls were told is alive by the signals that came.
 abbrev pub WhoIsAlive : Type 0
-WhoIsAlive = AfterPast (λ w es rs v. (i : ℕ) → i < w .state .count
-    → (senderAt (v .state) i .alive ≡ true → AliveBy (addressAt (w .state .senders) i) es)
-    × (AliveBy (addressAt (w .state .senders) i) es → senderAt (v .state) i .alive ≡ true))
+WhoIsAlive = (q : Setup) (r : Started) (w : World) → SetupMeets q r w → (es : List Event) (rs : Answers es) (v : World) → Course w es rs v
+    → (i : ℕ) → i < length (sendersOf q)
+    → let a = given (sendersOf q) i in
+    (lifeOf a i (logged [] es rs) .alive ≡ true → AliveBy a es) × (AliveBy a es → lifeOf a i (logged [] es rs) .alive ≡ true)
 
 -- ---- demand 3
 
@@ -156,18 +183,25 @@ WhoIsAlive = AfterPast (λ w es rs v. (i : ℕ) → i < w .state .count
 -- octet for octet, at the arrival of the last missing piece." Every other arrival of a piece is stored, or refused with
 -- 20, or, if the version is not 0, with 17: one of the cases applies.
 abbrev pub DeliveredOnce : Type 0
-DeliveredOnce = AfterPast (λ w past rs v. (m : Sent) (i : ℕ) → May m i past v
-    → (es : List Event) (ts : Answers es) (u : World) → Course v es ts u → Between (OnlyPieces m) m i v es
+DeliveredOnce = AfterPast (λ q log v. (m : Sent) (i : ℕ) → May q log m i
+    → (es : List Event) (ts : Answers es) (u : World) → Course v es ts u → Between (OnlyPieces m) m i log es ts
     → (c : ℕ) (packet : List ℕ) → PieceOf m c packet → (r : Said (message packet)) (x : World) → Meets u (message packet) r x
-    → Arrives m (verdictFor (v .state .n1) m (senderAt (v .state) i .last)) es c (r .0 .outcome) (r .1)
-    × (m .version .0 ≢ 0 → Once m es (r .0 .outcome)) × OneApplies m es c)
+    → Arrives m (verdictFor q log m) es c (messageTold (r .0) .outcome) (r .1)
+    × (m .version .0 ≢ 0 → Once m es (messageTold (r .0) .outcome)) × OneApplies m es c)
+
+-- "delivered once", by the list of what was delivered in the calls since the past.
+abbrev pub ListedOnce : Type 0
+ListedOnce = AfterPast (λ q log v. (m : Sent) (i : ℕ) → May q log m i
+    → (es : List Event) (ts : Answers es) (u : World) → Course v es ts u → Between (OnlyPieces m) m i log es ts
+    → Listed m (verdictFor q log m) es (deliveries (logged [] es ts)))
 
 -- "Whether or not those conditions hold, nothing is ever delivered but a join of pieces accepted since that message
 -- last opened, one for each piece number."
 abbrev pub Safety : Type 0
-Safety = AfterPast (λ w es rs v. (packet : List ℕ) (r : Said (message packet)) (u : World) → Meets v (message packet) r u
+Safety = AfterPast (λ q log v. (packet : List ℕ) (r : Said (message packet)) (u : World) → Meets v (message packet) r u
     → messageTold (r .0) .outcome .number ≡ 1
-    → Joined (acceptedWith (source (headOf packet)) (acceptedIn (source (headOf packet)) [] es rs) packet (r .0)) packet (r .1))
+    → let a = source (headOf packet) in
+    Joined (acceptedWith (openOf a (placeOf (sendersOf q) a) log) packet) packet (r .1))
 
 -- ---- uniqueness, and the edges
 
@@ -188,6 +222,10 @@ OneCutting = (g : Given) (m : List ℕ) (u c : ℕ) (buffer : List ℕ) (r t : C
 abbrev pub EveryEdge : Type 0
 EveryEdge = all edges ≡ true
 
+-- Small pasts are told what 01 gives, written out as numbers and octets, the full listing of 01 among them.
+abbrev pub EveryListing : Type 0
+EveryListing = (x : Name) → listings.all (listings.listings x) ≡ true
+
 -- ---- all of it
 
 pub record Demands : Type 0 where
@@ -196,12 +234,25 @@ pub record Demands : Type 0 where
   pub cutter-refuses : CutterRefuses
   pub numbers-tell : NumbersTell
   pub verdict-told : VerdictTold
+  pub nothing-handed : NothingHanded
   pub never-nine : NeverNine
+  pub tallied-is-course : TalliedIsCourse
+  pub one-counted : OneCounted
+  pub all-counted : AllCounted
+  pub every-said : EverySaid
+  pub log-is : LogIs
+  pub header-printed : HeaderAsPrinted
+  pub check-printed : CheckAsPrinted
+  pub cuts-printed : CutsAsPrinted
+  pub cutting-printed : CuttingAsPrinted
+  pub possible-printed : PossibleAsPrinted
   pub comes-back : ComesBack
   pub alive-is : WhoIsAlive
   pub delivers : DeliveredOnce
+  pub listed-once : ListedOnce
   pub is-safe : Safety
   pub one-course : OneCourse
   pub one-start : OneStart
   pub one-cutting : OneCutting
   pub every-edge : EveryEdge
+  pub every-listing : EveryListing

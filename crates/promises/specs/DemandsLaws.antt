@@ -23,7 +23,7 @@ use Rattle.cut.specs.Pieces.{pieceLength}
 use Rattle.state.specs.declared.Address.{Address}
 use Rattle.state.specs.declared.Receiver.{Receiver}
 use Rattle.state.specs.declared.Sender.{Sender}
-use Rattle.state.specs.Limits.{addressAt, valid}
+use Rattle.state.specs.Limits.{given, valid}
 use Rattle.state.specs.State.{senderAt, emptyReceiver}
 use Rattle.state.specs.Table.{source, found}
 use Rattle.answers.specs.declared.Answer.{Answer}
@@ -31,30 +31,37 @@ use Rattle.answers.specs.declared.Call.the-variants as call
 use Rattle.answers.specs.declared.Missing.{Missing}
 use Rattle.answers.specs.declared.Noted.{Noted}
 use Rattle.answers.specs.declared.Outcome.{Outcome}
+use Rattle.answers.specs.declared.Outcome.the-variants as outcome
+use Rattle.answers.specs.declared.Setup.{Setup}
+use Rattle.answers.specs.declared.Where.the-variants as lies
 use Rattle.answers.specs.declared.Started.{Started}
 use Rattle.answers.specs.declared.Ticked.{Ticked}
-use Rattle.answers.specs.Told.{leastRefusal, RefusedAs, outcomeTold, HasVerdict, messageTold, callNumber, clockTold, questionTold, CallTells}
-use Rattle.rules.specs.promised.Accepted.{acceptedWith, acceptedIn}
-use Rattle.rules.specs.promised.AlivePast.{AliveBy}
-use Rattle.rules.specs.promised.AlivePastLaws.{alive-after, after-alive}
+use Rattle.answers.specs.Told.{leastRefusal, RefusedAs, OutcomeTold, outcomeTold, whereTold, HasVerdict, messageTold, callNumber, clockTold, questionTold, CallTells}
+use Rattle.promised.specs.AlivePast.{AliveBy}
 use Rattle.rules.specs.calls.Admit.{senderRows, verdictOf, admitted, fills}
 use Rattle.rules.specs.calls.AdmitLaws.{admitted-facts}
 use Rattle.rules.specs.calls.Alive.{aliveRows}
-use Rattle.rules.specs.promised.CameLaws.{one-applies}
+use Rattle.promised.specs.CameLaws.{one-applies}
 use Rattle.rules.specs.calls.Clock.{notTicked}
-use Rattle.rules.specs.promised.Delivery.{May, Between, OnlyPieces, verdictFor, Arrives, Once}
-use Rattle.rules.specs.promised.DeliveryLaws.{arrives-only}
+use Rattle.promised.specs.Delivery.{Sent, Between, OnlyPieces, verdictFor, Arrives, Once, Listed}
+use Rattle.promised.specs.DeliveryLaws.{arrives-only}
+use Rattle.promised.specs.ListedLaws.{listed-only}
+use Rattle.promised.specs.AgreesLaws.{Agrees, agrees-start}
+use Rattle.promised.specs.PastSaysLaws.{says-is, agrees-after, log-is, alive-told}
+use Rattle.promised.specs.MessageSaysLaws.{safe}
+use Rattle.promised.specs.Says.{sendersOf, placeOf}
+use Rattle.promised.specs.Log.{toldBy, Exchange, logged, deliveries, acceptedWith, openOf, lifeOf}
 use Rattle.rules.specs.calls.ExactlyLaws.{message-refuses, message-given, alive-refuses, alive-given, clock-refuses, clock-given, question-refuses, question-given, setup-refuses, setup-given, message-tells, alive-tells, clock-tells, question-tells, setup-tells}
 use Rattle.rules.specs.calls.First.{Row, row, Given}
 use Rattle.rules.specs.calls.FirstLaws.{above, given-above, first-given, first-neither, numbered}
-use Rattle.rules.specs.promised.Join.{Joined}
-use Rattle.rules.specs.calls.Message.{area, messageRows, refused, packetRows, messageNumber, taken, messageAnswer}
-use Rattle.rules.specs.pasts.Past.{World, Event, message, alive, clock, aside, question, step, after, answerTo, partTo, Said, said, Answers}
+use Rattle.promised.specs.Join.{Joined}
+use Rattle.rules.specs.calls.Message.{area, messageRows, whereBy, refused, packetRows, messageNumber, taken, messageAnswer}
+use Rattle.rules.specs.pasts.Past.{World, Event, message, alive, clock, aside, question, step, after, Said, said, Answers}
 use Rattle.rules.specs.pasts.PastLaws.{Sound}
-use Rattle.rules.specs.promised.SafeLaws.{safe}
 use Rattle.rules.specs.calls.Setup.{setupWithin}
+use Rattle.promises.specs.Course.{SetupMeets, Course}
 use Rattle.promises.specs.CourseLaws.{one-call, one-course, next-call, course-start, course-sound}
-use Rattle.promises.specs.Demands.{numberIn, NothingMore, rowsOf, Refuses, CallsRefuse, SetupRefuses, CutterRefuses, Tells, NumbersTell, VerdictTold, NeverNine, WhoIsAlive, DeliveredOnce, Safety}
+use Rattle.promises.specs.Demands.{numberIn, NothingMore, rowsOf, Refuses, CallsRefuse, SetupRefuses, CutterRefuses, Tells, NumbersTell, VerdictTold, NothingHanded, NeverNine, EverySaid, LogIs, WhoIsAlive, DeliveredOnce, ListedOnce, Safety}
 
 -- ---- demand 1
 
@@ -221,41 +228,82 @@ never-nine q r w m es rs v c e a u meets =
     let only = calls-refuse v e a u meets .only-if in
     (λ n. never .0 (only 9 n), λ n. never .1 (only 11 n))
 
+-- ---- what a receiver says
+
+module _ (q : Setup) (r : Started) (w : World) (m : SetupMeets q r w) (es : List Event) (rs : Answers es) (v : World) (c : Course w es rs v) where
+  -- State and log of a course agree.
+  pub course-agrees : Agrees q (logged [] es rs) v
+  course-agrees =
+      let one = one-course w es rs v c in
+      subst (λ (x : World). Agrees q (logged [] es rs) x) (sym (one .1))
+      (subst (λ (x : Answers es). Agrees q (logged [] es x) (after w es)) (sym (one .0))
+      (agrees-after q [] w (agrees-start w (course-start q r w m)) es))
+
+pub every-said : EverySaid
+every-said q r w m es rs v c e a u meets =
+    ap (toldBy e) (one-call v e a u meets .0) ∙ says-is q (logged [] es rs) v (course-agrees q r w m es rs v c) e
+
+pub log-fixed : LogIs
+log-fixed q r w m es rs v c =
+    ap (logged [] es) (one-course w es rs v c .0) ∙ log-is q [] w (agrees-start w (course-start q r w m)) es
+
+-- What is not delivered hands over nothing, whatever the state.
+nothing-lies : (w : Receiver) (room : ℕ) (packet : List ℕ) → messageTold (messageAnswer w room packet) .outcome .number ≢ 1 → messageAnswer w room packet .lies ≡ lies.Nothing
+unfolding messageAnswer refused taken
+nothing-lies w room packet = cond-case (λ (a : Answer). messageTold a .outcome .number ≢ 1 → a .lies ≡ lies.Nothing) (eqb (messageNumber w room packet) 0) _ _
+    (λ _. of-outcome (admitted (w .n1) (w .clock) (senderAt w (found w (headOf packet))) (headOf packet) .outcome))
+    (λ _ _. refl)
+  where
+    of-outcome : (o : Outcome) → outcomeTold o .number ≢ 1 → whereBy o (found w (headOf packet)) (headOf packet) ≡ lies.Nothing
+    of-outcome (outcome.Refused k) ne = refl
+    of-outcome outcome.Stored ne = refl
+    of-outcome (outcome.Delivered v) ne = absurd (ne refl)
+
+pub nothing-handed : NothingHanded
+unfolding said
+nothing-handed w packet r v meets ne =
+    let is = one-call w (message packet) r v meets .0 in
+    let none : messageAnswer (w .state) (length (w .storage)) packet .lies ≡ lies.Nothing
+    = nothing-lies (w .state) (length (w .storage)) packet (subst (λ (x : Said (message packet)). messageTold (x .0) .outcome .number ≢ 1) is ne) in
+    (ap (λ (x : Said (message packet)). whereTold (x .0 .lies)) is ∙ ap whereTold none, ap (λ (x : Said (message packet)). x .1) is ∙ rw none)
+
 -- ---- demand 2
 
 pub alive-is : WhoIsAlive
 alive-is q r w m es rs v c i here =
-    let start = course-start q r w m in
-    let is = one-course w es rs v c .1 in
-    subst (λ (x : World). (senderAt (x .state) i .alive ≡ true → AliveBy (addressAt (w .state .senders) i) es) × (AliveBy (addressAt (w .state .senders) i) es → senderAt (x .state) i .alive ≡ true))
-    (sym is) (alive-after w start es i here, after-alive w start es i here)
+    let a = given (sendersOf q) i in
+    subst (λ (x : Answers es). (lifeOf a i (logged [] es x) .alive ≡ true → AliveBy a es) × (AliveBy a es → lifeOf a i (logged [] es x) .alive ≡ true))
+    (sym (one-course w es rs v c .0)) (alive-told w (course-start q r w m) es i here)
 
 -- ---- demand 3
 
 pub delivers : DeliveredOnce
 unfolding said
 delivers q r w m past rs v c sent i may es ts u d between k packet is a x meets =
-    let start = course-start q r w m in
-    let past-is = one-course w past rs v c .1 in
-    let at-past = arrives-only w start past sent i (subst (May sent i past) past-is may) es (subst (λ (y : World). Between (OnlyPieces sent) sent i y es) past-is between) k packet is in
-    let at-v = subst (λ (y : World). Promised y (answerTo (after y es) packet .outcome) (partTo (after y es) packet)) (sym past-is) at-past in
+    let agrees = course-agrees q r w m past rs v c in
+    let log = logged [] past rs in
+    let one = one-course v es ts u d in
+    let only = arrives-only q log v agrees sent i may es (subst (Between (OnlyPieces sent) sent i log es) (one .0) between) k packet is in
     let said-is = next-call v es ts u d (message packet) a x meets .0 in
-    let promised = subst (λ (y : Said (message packet)). Promised v (y .0 .outcome) (y .1)) (sym said-is) at-v in
+    let promised = subst (λ (y : Said (message packet)). Promised q log sent es k (outcomeTold (y .0 .outcome)) (y .1)) (sym said-is) only in
     (promised .0, promised .1, one-applies sent es k)
   where
-    Promised : World → Outcome → List ℕ → Type 0
-    Promised y out part = Arrives sent (verdictFor (y .state .n1) sent (senderAt (y .state) i .last)) es k out part × (sent .version .0 ≢ 0 → Once sent es out)
+    Promised : Setup → List Exchange → Sent → List Event → ℕ → OutcomeTold → List ℕ → Type 0
+    Promised q log sent es k told part = Arrives sent (verdictFor q log sent) es k told part × (sent .version .0 ≢ 0 → Once sent es told)
+
+pub listed-once : ListedOnce
+listed-once q r w m past rs v c sent i may es ts u d between =
+    let log = logged [] past rs in
+    let one = one-course v es ts u d .0 in
+    subst (λ (y : Answers es). Listed sent (verdictFor q log sent) es (deliveries (logged [] es y))) (sym one)
+    (listed-only q log v (course-agrees q r w m past rs v c) sent i may es (subst (Between (OnlyPieces sent) sent i log es) one between))
 
 pub is-safe : Safety
 unfolding said
 is-safe q r w m es rs v c packet a u meets gave =
-    let start = course-start q r w m in
-    let one = one-course w es rs v c in
-    let said-is = next-call w es rs v c (message packet) a u meets .0 in
-    let gave′ = subst (λ (y : Said (message packet)). messageTold (y .0) .outcome .number ≡ 1) said-is gave in
-    let join = safe w start es packet gave′ in
-    subst (λ (y : Said (message packet)). Joined (acceptedWith from (acceptedIn from [] es rs) packet (y .0)) packet (y .1)) (sym said-is)
-    (subst (λ (y : Answers es). Joined (acceptedWith from (acceptedIn from [] es y) packet (said (after w es) (message packet) .0)) packet (said (after w es) (message packet) .1)) (sym (one .0)) join)
+    let is = one-call v (message packet) a u meets .0 in
+    let join = safe q (logged [] es rs) v (course-agrees q r w m es rs v c) packet (subst (λ (y : Said (message packet)). messageTold (y .0) .outcome .number ≡ 1) is gave) in
+    subst (λ (y : Said (message packet)). Joined (acceptedWith (openOf from (placeOf (sendersOf q) from) (logged [] es rs)) packet) packet (y .1)) (sym is) join
   where
     from : Address
     from = source (headOf packet)

@@ -1,6 +1,12 @@
 -- The demands are kept: every statement of Demands.antt, proved. Assumes nothing.
+use Rattle.ring.specs.PrintedLaws as check
+use Rattle.header.specs.PrintedLaws as header
 use Rattle.cut.specs.Edges as edges
+use Rattle.cut.specs.PrintedLaws as cut
+use Rattle.rules.specs.pasts.ListingsLaws as listings
+use Rattle.promises.specs.AsPrintedLaws as printed
 use Rattle.promises.specs.ComesBackLaws as comes-back
+use Rattle.promises.specs.CountedLaws as counted
 use Rattle.promises.specs.CourseLaws as course
 use Rattle.promises.specs.Demands.{Demands}
 use Rattle.promises.specs.DemandsLaws as laws
@@ -12,13 +18,26 @@ kept = record {
   cutter-refuses = laws.cutter-refuses-all;
   numbers-tell = laws.numbers-tell;
   verdict-told = laws.verdict-told;
+  nothing-handed = laws.nothing-handed;
   never-nine = laws.never-nine;
+  tallied-is-course = counted.tallied-is-course;
+  one-counted = counted.one-counted;
+  all-counted = counted.all-counted;
+  every-said = laws.every-said;
+  log-is = laws.log-fixed;
+  header-printed = header.header-as-printed;
+  check-printed = check.check-as-printed;
+  cuts-printed = cut.cuts-as-printed;
+  cutting-printed = printed.cutting-as-printed;
+  possible-printed = cut.possible-as-printed;
   comes-back = comes-back.comes-back;
   alive-is = laws.alive-is;
   delivers = laws.delivers;
+  listed-once = laws.listed-once;
   is-safe = laws.is-safe;
   one-course = course.same-course;
   one-start = course.same-start;
   one-cutting = course.same-cutting;
   every-edge = edges.every-edge;
+  every-listing = listings.every-listing;
 }

@@ -1,5 +1,9 @@
 pub mod Course
+pub mod AsPrinted
+pub mod AsPrintedLaws
 pub mod CourseLaws
+pub mod Counted
+pub mod CountedLaws
 pub mod Demands
 pub mod DemandsLaws
 pub mod ComesBackLaws

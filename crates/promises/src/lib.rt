@@ -17,7 +17,8 @@ ghost use Rattle.rules.specs.pasts.Past as past;
 ghost use Rattle.rules.specs.pasts.Past.{step, after, said};
 ghost use Rattle.rules.specs.calls.Question.{questionAnswer};
 ghost use Rattle.rules.specs.calls.Setup.{setupAnswer};
-ghost use Rattle.promises.specs.Course.{world, messagesOf, Leads, SetupMeets, MessageMeets, PartMeets, AliveMeets, ClockMeets, QuestionMeets, CutterMeets};
+ghost use Rattle.tally.specs.Tally.{counted as countedOf};
+ghost use Rattle.promises.specs.Course.{world, messagesOf, Leads, SetupMeets, MessageMeets, TallyMeets, PartMeets, AliveMeets, ClockMeets, QuestionMeets, CutterMeets};
 use answers::Answer;
 use answers::Missing;
 use answers::Noted;
@@ -28,6 +29,7 @@ use answers::Where;
 use cut::cutter::Cutting;
 use header::Given;
 use state::Receiver;
+use tally::Tally;
 
 // The storage may hold any octets.
 pub fn setup(q: Setup) -> Started
@@ -54,6 +56,16 @@ pub fn messages(state: Receiver, storage: &mut [u8], first: &[u8], second: &[u8]
     let a = message(state, storage, first);
     let next = a.state;
     message(next, storage, second)
+}
+
+// The message call with the tally lent.
+pub fn tallied(tally: &mut Tally, state: Receiver, storage: &mut [u8], packet: &[u8]) -> Answer
+    ensures answer { λ r. ⌜ r ≡ messageAnswer state (length (now (storage .entry))) (now (packet .entry)) ⌝ }
+    ensures stored { λ _. ⌜ now (storage .exit) ≡ messageStorage state (now (storage .entry)) (now (packet .entry)) ⌝ }
+    ensures tallied { λ r. ⌜ now (tally .exit) ≡ countedOf (now (tally .entry)) (messageAnswer state (length (now (storage .entry))) (now (packet .entry)) .outcome) ⌝ }
+    ensures meets { λ r. ⌜ TallyMeets (now (tally .entry)) (world state (now (storage .entry))) (now (packet .entry)) r (now (tally .exit)) (world (r .state) (now (storage .exit))) ⌝ }
+{
+    tally::message(tally, state, storage, packet)
 }
 
 pub fn part<'a>(lies: Where, packet: &'a [u8], storage: &'a [u8]) -> &'a [u8]

@@ -1,7 +1,7 @@
 -- "A past is a setup, storage of its right length with any octets in it, and then calls".
 pub mod Past
--- What one sender sees of it.
-pub mod View
+-- Small pasts with the answers that 01 gives.
+pub mod Listings
 -- Proved of them.
 pub mod PastLaws
-pub mod ViewLaws
+pub mod ListingsLaws

@@ -10,10 +10,6 @@ use Rattle.signal.specs.AlivePlaces.{AliveField, alivePlace}
 use Rattle.signal.specs.AlivePlaces.AliveField.{alTmOut, alMode, alProtocol, alVer}
 use Rattle.header.specs.Codes.{within}
 
--- "An alive PDU is 128 to 1,472 octets"
-abbrev pub mostAlivePdu : ℕ
-mostAlivePdu = 1472
-
 -- The number at a field's place.
 abbrev pub aliveValue : List ℕ → AliveField → ℕ
 aliveValue s f = number (alivePlace f .1) s (alivePlace f .0)

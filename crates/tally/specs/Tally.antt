@@ -3,7 +3,7 @@
 use Prim.Native.Nat.{ℕ, _+_, min}
 use mathlib.Core.Path.{_≡_}
 use mathlib.Core.Bool.{cond}
-use mathlib.Core.List.{List, [], _∷_}
+use mathlib.Core.List.{List}
 use lib.Dec.{leb}
 use lib.ListN.{length}
 use Rattle.state.specs.declared.Receiver.{Receiver}
@@ -39,17 +39,3 @@ pub record SaveACount (t : Tally) (w : Receiver) (storage packet : List ℕ) : T
   pub same-state : messageAnswer w (length storage) packet .state ≡ w
   pub same-storage : messageStorage w storage packet ≡ storage
   pub one-refusal : counted t (messageAnswer w (length storage) packet .outcome) ≡ oneRefusal t
-
--- ---- over many calls, first to last
-
-unfoldable pub tallied : Tally → List Outcome → Tally
-tallied t [] = t
-tallied t (o ∷ os) = tallied (counted t o) os
-
-unfoldable pub answersAmong : List Outcome → ℕ
-answersAmong [] = 0
-answersAmong (o ∷ os) = cond (outcomeRefused o) (answersAmong os) (1 + answersAmong os)
-
-unfoldable pub refusalsAmong : List Outcome → ℕ
-refusalsAmong [] = 0
-refusalsAmong (o ∷ os) = cond (outcomeRefused o) (1 + refusalsAmong os) (refusalsAmong os)

@@ -1,7 +1,7 @@
--- What a message call leaves in the tally, and what the tally says after any run of calls. Assumes nothing.
-use mathlib.Core.Path.{_≡_, refl, ap, _∙_}
-use mathlib.Core.List.{List, [], _∷_}
-use Prim.Native.Nat.{ℕ, _+_, _≤_, _<_}
+-- What a message call leaves in the tally. Assumes nothing.
+use mathlib.Core.Path.{_≡_, refl, ap}
+use mathlib.Core.List.{List}
+use Prim.Native.Nat.{ℕ, _+_, _≤_}
 use native.Mathlib.Omega.{arith}
 use lib.ListN.{length}
 use borrow.Author.Tests.{lt-leb}
@@ -13,7 +13,7 @@ use Rattle.answers.specs.Told.{RefusedAs, outcomeTold, messageTold, OutcomeTell
 use Rattle.rules.specs.calls.ExactlyLaws.{message-refuses, message-given, message-tells}
 use Rattle.rules.specs.calls.Message.{refused, messageAnswer, messageStorage}
 use Rattle.tally.specs.declared.Tally.{Tally}
-use Rattle.tally.specs.Tally.{most, stopping, counted, SaveACount, countedBy, tallied, answersAmong, refusalsAmong}
+use Rattle.tally.specs.Tally.{most, stopping, counted, SaveACount, countedBy}
 
 -- ---- one call
 
@@ -44,36 +44,3 @@ never-falls k h = omega (arith, h)
 
 pub never-passes : (k : ℕ) → stopping k ≤ most
 never-passes k = omega arith
-
-one-and-more : (k n : ℕ) → stopping (stopping (k + 1) + n) ≡ stopping (k + (1 + n))
-one-and-more k n = omega arith
-
--- ---- any run of calls
-
--- Each count has grown by as many as there were of its kind, up to where it stops.
-pub answers-counted : (os : List Outcome) (t : Tally) → t .answers ≤ most → tallied t os .answers ≡ stopping (t .answers + answersAmong os)
-unfolding tallied answersAmong
-answers-counted [] t h = omega (arith, h)
-answers-counted (Refused k ∷ os) t h = answers-counted os (counted t (Refused k)) h
-answers-counted (Stored ∷ os) t h = answers-counted os (counted t Stored) (never-passes (t .answers + 1)) ∙ one-and-more (t .answers) (answersAmong os)
-answers-counted (Delivered v ∷ os) t h = answers-counted os (counted t (Delivered v)) (never-passes (t .answers + 1)) ∙ one-and-more (t .answers) (answersAmong os)
-
-pub refusals-counted : (os : List Outcome) (t : Tally) → t .refusals ≤ most → tallied t os .refusals ≡ stopping (t .refusals + refusalsAmong os)
-unfolding tallied refusalsAmong
-refusals-counted [] t h = omega (arith, h)
-refusals-counted (Refused k ∷ os) t h = refusals-counted os (counted t (Refused k)) (never-passes (t .refusals + 1)) ∙ one-and-more (t .refusals) (refusalsAmong os)
-refusals-counted (Stored ∷ os) t h = refusals-counted os (counted t Stored) h
-refusals-counted (Delivered v ∷ os) t h = refusals-counted os (counted t (Delivered v)) h
-
--- Each call is counted once: while neither count stands where it stops, the two have grown by as many as there were
--- calls.
-pub among-all : (os : List Outcome) → answersAmong os + refusalsAmong os ≡ length os
-unfolding answersAmong refusalsAmong
-among-all [] = refl
-among-all (Refused k ∷ os) = omega (arith, among-all os)
-among-all (Stored ∷ os) = omega (arith, among-all os)
-among-all (Delivered v ∷ os) = omega (arith, among-all os)
-
-pub all-counted : (os : List Outcome) (t : Tally) → t .answers ≤ most → t .refusals ≤ most → tallied t os .answers < most → tallied t os .refusals < most
-    → tallied t os .answers + tallied t os .refusals ≡ t .answers + t .refusals + length os
-all-counted os t a r a′ r′ = omega (arith, a′, r′, answers-counted os t a, refusals-counted os t r, among-all os)

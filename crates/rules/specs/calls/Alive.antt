@@ -7,7 +7,7 @@ use lib.Dec.{eqb, leb}
 use lib.ListN.{length}
 use Rattle.header.specs.declared.Head.{Head}
 use Rattle.signal.specs.declared.Body.{Body}
-use Rattle.signal.specs.Alive.{mostAlivePdu, bodyOf, isBody, groupOf}
+use Rattle.signal.specs.Alive.{bodyOf, isBody, groupOf}
 use Rattle.signal.specs.AlivePlaces.{aliveSize}
 use Rattle.header.specs.Codes.{isAlive}
 use Rattle.header.specs.Head.{headOf, lengthOutside, commonWithin}
@@ -22,6 +22,10 @@ use Rattle.rules.specs.calls.Message.{withSender}
 use Rattle.state.specs.State.{senderAt, noHeard, withHeard}
 
 -- ---- the numbers
+
+-- "An alive PDU is 128 to 1,472 octets"
+abbrev pub mostAlivePdu : ℕ
+mostAlivePdu = 1472
 
 -- "12: PDU too short (64; alive 128), too long (1,460; alive 1,472), or length unlike BSIZE"
 abbrev pub aliveLengthWrong : ℕ → Head → Bool

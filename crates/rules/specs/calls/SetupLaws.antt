@@ -1,7 +1,7 @@
--- Laws of setup. Assumes nothing.
+-- What an accepted setup was given. Assumes nothing.
+use Prim.Native.Nat.{_≤_}
 use mathlib.Core.Path.{_≡_}
 use mathlib.Core.Bool.{true, _&&_}
-use Prim.Native.Nat.{_≤_}
 use lib.Dec.{leb}
 use borrow.Author.Tests.{leb-true}
 use Rattle.octets.specs.Split.{and-left, and-right}
@@ -11,10 +11,33 @@ use Rattle.state.specs.Limits.{isN1, isDropTime, addressesWithin}
 use Rattle.state.specs.State.{sendersMost}
 use Rattle.rules.specs.calls.Setup.{setupWithin}
 
-pub setup-count : (q : Setup) → setupWithin q ≡ true → q .count ≤ sendersMost
+pub record SetupWithin (q : Setup) : Type 0 where
+  pub mode : q .mode ≤ 1
+  pub n1 : isN1 (q .n1) ≡ true
+  pub n1-some : 1 ≤ q .n1
+  pub t : isDropTime (q .t) ≡ true
+  pub count : q .count ≤ sendersMost
+  pub addresses : addressesWithin (q .senders) (q .count) ≡ true
+
+pub setup-facts : (q : Setup) → setupWithin q ≡ true → SetupWithin q
 unfolding setupWithin
-setup-count q e =
-    let settings = leb (q .mode) 1 && isN1 (q .n1) && isDropTime (q .t) in
+setup-facts q e =
+    let mode = leb (q .mode) 1 in
+    let n1 = isN1 (q .n1) in
+    let t = isDropTime (q .t) in
     let count = within 1 sendersMost (q .count) in
-    let x = and-left (settings && count) (addressesWithin (q .senders) (q .count)) e in
-    leb-true (q .count) sendersMost (and-right (leb 1 (q .count)) (leb (q .count) sendersMost) (and-right settings count x))
+    let addresses = addressesWithin (q .senders) (q .count) in
+    let four = and-left (mode && n1 && t && count) addresses e in
+    let three = and-left (mode && n1 && t) count four in
+    let two = and-left (mode && n1) t three in
+    record {
+      mode = leb-true (q .mode) 1 (and-left mode n1 two);
+      n1 = and-right mode n1 two;
+      n1-some = leb-true 1 (q .n1) (and-left (leb 1 (q .n1)) (leb (q .n1) 1024) (and-right mode n1 two));
+      t = and-right (mode && n1) t three;
+      count = leb-true (q .count) sendersMost (and-right (leb 1 (q .count)) (leb (q .count) sendersMost) (and-right (mode && n1 && t) count four));
+      addresses = and-right (mode && n1 && t && count) addresses e;
+    }
+
+pub setup-count : (q : Setup) → setupWithin q ≡ true → q .count ≤ sendersMost
+setup-count q e = setup-facts q e .count

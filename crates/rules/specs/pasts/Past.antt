@@ -44,7 +44,7 @@ step w (message packet) = record {
   storage = messageStorage (w .state) (w .storage) packet;
 }
 step w (alive packet) = withState w (aliveAnswer (w .state) packet .state)
-step w (clock now) = withState w (clockAnswer (w .state) now .state)
+step w (clock ms) = withState w (clockAnswer (w .state) ms .state)
 step w (aside call) = w
 
 -- What calls leave, in the order of time.
@@ -65,13 +65,13 @@ partTo w packet = partOf (answerTo w packet .lies) packet (messageStorage (w .st
 abbrev pub Said : Event → Type 0
 Said (message packet) = Answer × List ℕ
 Said (alive packet) = Noted
-Said (clock now) = Ticked
+Said (clock ms) = Ticked
 Said (aside question) = Missing
 
 unfoldable pub said : (w : World) (e : Event) → Said e
 said w (message packet) = (answerTo w packet, partTo w packet)
 said w (alive packet) = aliveAnswer (w .state) packet
-said w (clock now) = clockAnswer (w .state) now
+said w (clock ms) = clockAnswer (w .state) ms
 said w (aside question) = questionAnswer (w .state)
 
 -- What each of the calls says, in the order of time.
