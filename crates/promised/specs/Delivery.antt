@@ -74,7 +74,7 @@ pub record PieceOf (m : Sent) (c : ℕ) (packet : List ℕ) : Type 0 where
 abbrev pub Brings : Sent → ℕ → Event → Type 0
 Brings m c (message packet) = PieceOf m c packet
 Brings m c (alive packet) = ⊥
-Brings m c (clock now) = ⊥
+Brings m c (clock ms) = ⊥
 Brings m c (aside call) = ⊥
 
 -- came with one of these.

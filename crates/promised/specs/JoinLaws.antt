@@ -3,15 +3,15 @@
 use Prim.Native.Nat.{ℕ, suc, _+_, _-_, _*_, _^_, _≤_, _<_}
 use mathlib.Core.Path.{_≡_, refl, sym, ap, subst, _∙_}
 use mathlib.Core.Logic.{_≢_, ⊎-elim}
-use mathlib.Core.Bool.{true, false, not, cond, _&&_, _||_}
+use mathlib.Core.Bool.{true, false, cond, _&&_}
 use mathlib.Core.List.{List, [], _∷_, List·Memᴰ, List·Memᴰ·head, List·Memᴰ·tail, List·Memᴰ·cases-cons, List·Memᴰ·not-nil}
 use native.Mathlib.Nat.{zero-mul, mul-le-mul-right}
 use native.Mathlib.Omega.{arith}
-use lib.Dec.{eqb, ltb}
+use lib.Dec.{eqb}
 use lib.ListN.{length, take, drop}
 use lib.Seq.{take-length}
 use lib.Pow.{pow-pos}
-use borrow.Author.Tests.{eqb-true, eq-eqb, ne-eqb, not-true}
+use borrow.Author.Tests.{eqb-true, eq-eqb, ne-eqb}
 use Rattle.octets.specs.Run.{run, laid}
 use Rattle.octets.specs.RunLaws.{length-laid, length-run, run-laid, run-before, run-behind, run-run}
 use Rattle.octets.specs.Split.{lt-or-le, eq-or-ne, true-or-false, never-both, cond-case, and-left, and-right}
@@ -27,13 +27,11 @@ use Rattle.map.specs.MapLaws.{bit-set, bit-keep, bit-zero, set-below, full-bit,
 use Rattle.state.specs.declared.Message.{Message}
 use Rattle.state.specs.declared.Sender.{Sender}
 use Rattle.state.specs.State.{Settings}
-use Rattle.state.specs.Limits.{clockMost}
 use Rattle.rules.specs.calls.Admit.{rejoins, sameCut, mapBefore, mapAfter, fills, messageOf, senderAfter, admitted}
 use Rattle.rules.specs.calls.AdmitLaws.{Admitted, admitted-facts, rejoins-open, map-adds, fills-full}
-use Rattle.rules.specs.calls.Clock.{drops, aged}
 use Rattle.promised.specs.Join.{Kin, kinOf, numberIn, behind, Brought, OnePerNumber, Joined}
 use Rattle.rules.specs.calls.Message.{area, storageAfter}
-use Rattle.promised.specs.View.{View, numberOf, put, nextView, tickView}
+use Rattle.promised.specs.View.{View, numberOf, put, nextView}
 
 -- What a record keeps of them.
 abbrev pub kinIn : Message → Kin
@@ -282,7 +280,7 @@ module _ (packets : List (List ℕ)) (g : Settings) (v : View) (p : List ℕ) (i
   unfolding put
   put-inv = record { room = unfold octets-after in octets-length; good = unfold octets-after in put-good }
 
--- ---- what a call of the sender's own, and the clock, leave
+-- ---- what a call of the sender's own leaves
 
 pub next-inv : (packets : List (List ℕ)) (g : Settings) (v : View) (p : List ℕ) → Inv packets v → length p ≡ headOf p .cut .bsize
     → Inv (cond (eqb (numberOf g v p) 0) (p ∷ packetsBefore (v .sender) (headOf p) packets) packets) (nextView g v p)
@@ -292,16 +290,6 @@ next-inv packets g v p inv size = ⊎-elim
     rw e (put-inv packets g v p inv (admitted-facts (g .test) (g .n1) (v .sender) (headOf p) (eqb-true (numberOf g v p) 0 e)) size))
     (λ (e : eqb (numberOf g v p) 0 ≡ false). rw e inv)
     (true-or-false (eqb (numberOf g v p) 0))
-
-pub tick-inv : (packets : List (List ℕ)) (g : Settings) (v : View) (now : ℕ) → Inv packets v → Inv packets (tickView g v now)
-unfolding tickView aged
-tick-inv packets g v now inv = cond-case (Inv packets) (ltb now (v .now) || ltb clockMost now) _ _ (λ _. inv) (λ _. record {
-  room = inv .room;
-  good = λ o.
-      let dropped = drops (g .t) now (v .sender) in
-      let kept : dropped ≡ false = not-true dropped (and-right (v .sender .«open») (not dropped) o) in
-      rw kept (inv .good (and-left (v .sender .«open») (not dropped) o));
-})
 
 -- ---- what is delivered
 

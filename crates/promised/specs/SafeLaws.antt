@@ -1,8 +1,8 @@
 -- What is delivered after a past is a join of packets accepted since their message opened. Assumes nothing.
 use Prim.Native.Nat.{ℕ, suc, _+_, _*_, _≤_, _<_}
-use mathlib.Core.Path.{_≡_, refl, sym, ap, subst, _∙_}
+use mathlib.Core.Path.{_≡_, sym, ap, subst, _∙_}
 use mathlib.Core.Logic.{_≢_, ⊎-elim}
-use mathlib.Core.Bool.{Bool, true, false, not, cond}
+use mathlib.Core.Bool.{true, false, cond}
 use mathlib.Core.List.{List, [], _∷_}
 use native.Mathlib.Nat.{mul-le-mul-right, suc-mul}
 use native.Mathlib.Omega.{arith}
@@ -21,23 +21,21 @@ use Rattle.cut.specs.Possible.{possible, messageLength, ownLength}
 use Rattle.cut.specs.PossibleLaws.{possible-facts}
 use Rattle.state.specs.declared.Address.{Address}
 use Rattle.state.specs.declared.Sender.{Sender}
-use Rattle.state.specs.Limits.{sameAddress, addressAt, valid}
-use Rattle.state.specs.State.{senderAt, Settings, settingsFrom}
+use Rattle.state.specs.Limits.{sameAddress, valid}
+use Rattle.state.specs.State.{senderAt, Settings}
 use Rattle.state.specs.Table.{source, found}
 use Rattle.answers.specs.declared.Answer.{Answer}
 use Rattle.answers.specs.declared.Outcome.the-variants.{Refused, Stored, Delivered}
 use Rattle.promised.specs.Judged.{within, hasLength, isMessage, inOrder, isFrom}
-use Rattle.promised.specs.JudgedLaws.{in-order-is}
 use Rattle.rules.specs.calls.Admit.{rejoins, fills, admitted}
 use Rattle.rules.specs.calls.AdmitLaws.{admitted-facts}
 use Rattle.promised.specs.Join.{Joined, behind}
 use Rattle.promised.specs.JoinLaws.{Inv, partView, delivered-joined}
-use Rattle.rules.specs.calls.Message.{area, lengthWrong, headWithin, messageNumber, messageAnswer, messageStorage, storageAfter, liesAt, taken, refused}
+use Rattle.rules.specs.calls.Message.{area, messageNumber, messageAnswer, messageStorage, storageAfter, liesAt, taken, refused}
 use Rattle.rules.specs.calls.MessageLaws.{Passed, taken-facts}
 use Rattle.rules.specs.calls.Part.{partOf, storedPart}
 use Rattle.rules.specs.pasts.Past.{World, answerTo, partTo, Start}
 use Rattle.rules.specs.pasts.PastLaws.{Sound, length-after, start-sound, start-sender}
-use Rattle.rules.specs.calls.QuestionLaws.{first-holds}
 use Rattle.promised.specs.View.{view, numberOf}
 use Rattle.promised.specs.ViewLaws.{out-of-order, own-octets, fills-joining, Registered, registered-number, registered-place}
 
@@ -78,15 +76,6 @@ module _ (w : World) (sound : Sound w) (p : List ℕ) (vd : Verdict) (gave : mes
 
       not-stored : Stored ≡ Delivered vd → ⊥
       not-stored e = let z : _≡_ {A = ℕ} 0 1 = cc in omega arith
-
-  pub from-sender : isFrom (addressAt (w .state .senders) i) p ≡ true
-  unfolding isFrom
-  from-sender =
-      let g : Sender → Bool = λ s. sameAddress (s .address) (source h) in
-      let long : not (lengthWrong (length p) h) ≡ true = rw (passed .length-right) in
-      both (inOrder p) (sameAddress (addressAt (w .state .senders) i) (source h))
-      (in-order-is p ∙ both (not (lengthWrong (length p) h)) (headWithin p h) long (passed .head-within))
-      (first-holds g (w .state .senders) (w .state .count) (passed .registered))
 
   -- ---- the octets that are handed over
 
@@ -177,6 +166,3 @@ start-inv w s i here =
       room = length-run (i * area) area (w .storage) (omega (arith, room, mul-le-mul-right {m = suc i} {n = w .state .count} area here, suc-mul i area));
       good = λ o. absurd (never-both o (ap (λ (x : Sender). x .«open») (start-sender w s i here)));
     }
-
-pub start-registered : (w : World) → Start w → (i : ℕ) → i < w .state .count → Registered (settingsFrom (w .state)) (addressAt (w .state .senders) i) i w
-start-registered w s i here = record { sound = start-sound w s; here = here; settings = refl; address = refl }

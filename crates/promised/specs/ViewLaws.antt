@@ -3,7 +3,7 @@ use Prim.Native.Nat.{ℕ, suc, _+_, _*_, _≤_, _<_}
 use mathlib.Core.Path.{_≡_, refl, sym, ap, _∙_}
 use mathlib.Core.Logic.{_≢_, ⊎-elim}
 use mathlib.Core.Bool.{Bool, true, false, not}
-use mathlib.Core.List.{List, [], _∷_}
+use mathlib.Core.List.{List}
 use native.Mathlib.Nat.{mul-le-mul-right, suc-mul}
 use native.Mathlib.Omega.{arith}
 use lib.Dec.{eqb}
@@ -37,8 +37,8 @@ use Rattle.rules.specs.calls.ClockLaws.{clock-at}
 use Rattle.rules.specs.calls.First.{first}
 use Rattle.rules.specs.calls.Message.{area, lengthWrong, headWithin, messageRows, messageNumber, storageAfter, withSender, taken, refused, messageAnswer, messageStorage}
 use Rattle.rules.specs.calls.MessageLaws.{Passed, taken-facts}
-use Rattle.rules.specs.pasts.Past.{World, Event, message, alive, clock, aside, step, after}
-use Rattle.rules.specs.pasts.PastLaws.{Sound, same-settings, same-count, step-sound}
+use Rattle.rules.specs.pasts.Past.{World, Event, message, alive, clock, aside, step}
+use Rattle.rules.specs.pasts.PastLaws.{Sound}
 use Rattle.rules.specs.calls.QuestionLaws.{first-of, first-holds}
 use Rattle.promised.specs.Judged.{inOrder, isFrom}
 use Rattle.promised.specs.JudgedLaws.{in-order-is}
@@ -343,14 +343,6 @@ pub record Registered (g : Settings) (a : Address) (i : ℕ) (w : World) : Type 
   pub address : addressAt (w .state .senders) i ≡ a
 
 module _ (g : Settings) (a : Address) (i : ℕ) (w : World) (r : Registered g a i w) where
-  pub registered-step : (e : Event) → Registered g a i (step w e)
-  registered-step e = record {
-    sound = step-sound w e (r .sound);
-    here = omega (arith, r .here, same-count w e);
-    settings = same-settings w e ∙ r .settings;
-    address = same-address w (r .sound) i (r .here) e ∙ r .address;
-  }
-
   -- What a call does to the sender's view is what it is to the sender.
   pub registered-view : (e : Event) → view (step w e) i ≡ stepView g (view w i) (sees a e)
   registered-view e = view-step w (r .sound) i (r .here) e ∙ rw (r .settings, r .address)
@@ -367,8 +359,3 @@ module _ (g : Settings) (a : Address) (i : ℕ) (w : World) (r : Registered g a 
   registered-outcome packet mine =
       outcome-is w (r .sound) i (r .here) packet (rw (r .address) mine)
       ∙ ap (λ (x : Settings). outcomeView x (view w i) packet) (r .settings)
-
-pub registered-after : (g : Settings) (a : Address) (i : ℕ) (w : World) → Registered g a i w → (es : List Event) → Registered g a i (after w es)
-unfolding after
-registered-after g a i w r [] = r
-registered-after g a i w r (e ∷ es) = registered-after g a i (step w e) (registered-step g a i w r e) es
