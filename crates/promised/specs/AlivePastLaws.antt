@@ -41,7 +41,7 @@ use Rattle.promised.specs.ViewLaws.{found-own, found-other, set-kept, me
 
 -- ---- what a call is to one sender's being alive
 
-pub record Life : Type 0 where
+pub record Being : Type 0 where
   pub sender : Sender
   pub now : ℕ
 
@@ -49,29 +49,29 @@ pub record Life : Type 0 where
 abbrev pub living : Sender → Sender
 living s = withHeard noSender (s .alive) (s .heard)
 
-unfoldable pub life : World → ℕ → Life
-life w i = record { sender = living (senderAt (w .state) i); now = w .state .clock }
+unfoldable pub being : World → ℕ → Being
+being w i = record { sender = living (senderAt (w .state) i); now = w .state .clock }
 
 -- The drop time is not looked at: nothing is open.
-unfoldable pub senderBy : Address → Life → Event → Sender
+unfoldable pub senderBy : Address → Being → Event → Sender
 senderBy a l (message packet) = l .sender
 senderBy a l (alive packet) = cond (isSignal a packet) (heardBy (l .now) (l .sender) (bodyOf packet)) (l .sender)
 senderBy a l (clock now) = cond (backOrAbove (l .now) now) (l .sender) (aged 0 now (l .sender))
 senderBy a l (aside call) = l .sender
 
-abbrev pub lifeBy : Address → Life → Event → Life
-lifeBy a l e = record { sender = senderBy a l e; now = movedBy (l .now) e }
+abbrev pub beingBy : Address → Being → Event → Being
+beingBy a l e = record { sender = senderBy a l e; now = movedBy (l .now) e }
 
-abbrev lifeAfter : Address → Life → List Event → Life
-lifeAfter a = foldl (lifeBy a)
+abbrev beingAfter : Address → Being → List Event → Being
+beingAfter a = foldl (beingBy a)
 
 -- "nobody is heard"
-abbrev newLife : Life
-newLife = record { sender = noSender; now = 0 }
+abbrev newBeing : Being
+newBeing = record { sender = noSender; now = 0 }
 
 -- Heard by a signal of mode 1.
-abbrev heardLife : Life → Body → Life
-heardLife l b = record { sender = withHeard (l .sender) true (record { stamp = l .now; timeout = b .timeout }); now = l .now }
+abbrev heardBeing : Being → Body → Being
+heardBeing l b = record { sender = withHeard (l .sender) true (record { stamp = l .now; timeout = b .timeout }); now = l .now }
 
 living-after : (n1 now : ℕ) (s : Sender) (h : Head) → living (admitted n1 now s h .sender) ≡ living s
 unfolding admitted senderAfter
@@ -150,9 +150,9 @@ module _ (w : World) (sound : Sound w) (i : ℕ) (here : i < w .state .count) wh
       (λ q. absurd (found-other (w .state) (sound .is-valid) i here packet (heeded-other a packet (w .state) e (eqb-true number 0 z)) (sym q))))
       (λ _. refl)
 
-  life-own : (packet : List ℕ) → isSignal a packet ≡ true → life (step w (alive packet)) i ≡ lifeBy a (life w i) (alive packet)
-  unfolding life step senderBy movedBy aliveAnswer withSender
-  life-own packet e =
+  being-own : (packet : List ℕ) → isSignal a packet ≡ true → being (step w (alive packet)) i ≡ beingBy a (being w i) (alive packet)
+  unfolding being step senderBy movedBy aliveAnswer withSender
+  being-own packet e =
       let there : i < length (w .state .senders) = omega (arith, valid-length (w .state) (sound .is-valid)) in
       let place = found-own (w .state) (sound .is-valid) i here packet (signal-own a packet e) in
       rw (
@@ -163,34 +163,34 @@ module _ (w : World) (sound : Sound w) (i : ℕ) (here : i < w .state .count) wh
         living-heard (w .state .clock) s (bodyOf packet),
       )
 
-  life-clock : (now : ℕ) → life (step w (clock now)) i ≡ lifeBy a (life w i) (clock now)
-  unfolding life step senderBy movedBy
-  life-clock now =
-      clock-at (w .state) now (sound .is-valid) i here (λ t x. record { sender = living x; now = t } ≡ lifeBy a (life w i) (clock now))
+  being-clock : (now : ℕ) → being (step w (clock now)) i ≡ beingBy a (being w i) (clock now)
+  unfolding being step senderBy movedBy
+  being-clock now =
+      clock-at (w .state) now (sound .is-valid) i here (λ t x. record { sender = living x; now = t } ≡ beingBy a (being w i) (clock now))
       (λ e. rw e) (λ e. rw (e, living-aged (w .state .t) now s))
 
-  pub life-step : (e : Event) → life (step w e) i ≡ lifeBy a (life w i) e
+  pub being-step : (e : Event) → being (step w e) i ≡ beingBy a (being w i) e
   unfolding senderBy movedBy
-  life-step (message packet) = unfold life step in rw (message-kept living w sound i here living-after packet, message-only (w .state) (length (w .storage)) packet .same-clock)
-  life-step (alive packet) = ⊎-elim
-      (λ (e : isSignal a packet ≡ true). life-own packet e)
-      (λ (e : isSignal a packet ≡ false). unfold life step in rw (e, other-kept packet e, alive-only (w .state) packet .same-clock))
+  being-step (message packet) = unfold being step in rw (message-kept living w sound i here living-after packet, message-only (w .state) (length (w .storage)) packet .same-clock)
+  being-step (alive packet) = ⊎-elim
+      (λ (e : isSignal a packet ≡ true). being-own packet e)
+      (λ (e : isSignal a packet ≡ false). unfold being step in rw (e, other-kept packet e, alive-only (w .state) packet .same-clock))
       (true-or-false (isSignal a packet))
-  life-step (clock now) = life-clock now
-  life-step (aside call) = unfold life step in refl
+  being-step (clock now) = being-clock now
+  being-step (aside call) = unfold being step in refl
 
-life-after : (w : World) → Sound w → (i : ℕ) → i < w .state .count → (es : List Event)
-    → life (after w es) i ≡ lifeAfter (addressAt (w .state .senders) i) (life w i) es
+being-after : (w : World) → Sound w → (i : ℕ) → i < w .state .count → (es : List Event)
+    → being (after w es) i ≡ beingAfter (addressAt (w .state .senders) i) (being w i) es
 unfolding after
-life-after w sound i here [] = refl
-life-after w sound i here (e ∷ es) =
-    life-after (step w e) (step-sound w e sound) i (omega (arith, same-count w e)) es
-    ∙ rw (same-address w sound i here e, life-step w sound i here e)
+being-after w sound i here [] = refl
+being-after w sound i here (e ∷ es) =
+    being-after (step w e) (step-sound w e sound) i (omega (arith, same-count w e)) es
+    ∙ rw (same-address w sound i here e, being-step w sound i here e)
 
 -- "At setup the clock is 0, nobody is heard"
-start-life : (w : World) → Start w → (i : ℕ) → i < w .state .count → life w i ≡ newLife
-unfolding life
-start-life w s i here = rw (start-sender w s i here, start-clock w s)
+start-being : (w : World) → Start w → (i : ℕ) → i < w .state .count → being w i ≡ newBeing
+unfolding being
+start-being w s i here = rw (start-sender w s i here, start-clock w s)
 
 -- ---- the calls of a past
 
@@ -227,19 +227,19 @@ was-spared now s e =
 
 module _ (a : Address) where
   -- Alive, and to stay so over these calls.
-  record Lasts (l : Life) (es : List Event) : Type 0 where
+  record Lasts (l : Being) (es : List Event) : Type 0 where
     is-alive : l .sender .alive ≡ true
     since : (packet : List ℕ) → List·Memᴰ (alive packet) es → isSignal a packet ≡ false
     young : (now : ℕ) → List·Memᴰ now (clockTimes (l .now) es) → Young now (l .sender .heard)
 
-  now-after : (l : Life) (es : List Event) → lifeAfter a l es .now ≡ timeAfter (l .now) es
+  now-after : (l : Being) (es : List Event) → beingAfter a l es .now ≡ timeAfter (l .now) es
   now-after l [] = refl
-  now-after l (e ∷ es) = now-after (lifeBy a l e) es
+  now-after l (e ∷ es) = now-after (beingBy a l e) es
 
   -- "Mode 1: the sender is alive, stamped with the clock and al_tm_out"
-  signal-life : (l : Life) (packet : List ℕ) → isSignal a packet ≡ true → bodyOf packet .mode ≡ 1 → lifeBy a l (alive packet) ≡ heardLife l (bodyOf packet)
+  signal-being : (l : Being) (packet : List ℕ) → isSignal a packet ≡ true → bodyOf packet .mode ≡ 1 → beingBy a l (alive packet) ≡ heardBeing l (bodyOf packet)
   unfolding senderBy movedBy heardBy
-  signal-life l packet e m = rw (e, m)
+  signal-being l packet e m = rw (e, m)
 
   -- ---- one call more
 
@@ -249,7 +249,7 @@ module _ (a : Address) where
   since-more e es other f packet m = ⊎-elim (λ (z : alive packet ≡ e). ap (isOwn a) z ∙ other) (f packet) (List·Memᴰ·cases-cons m)
 
   -- A call that is neither a signal of its own nor a clock call that is not refused.
-  module _ (l : Life) (e : Event) (es : List Event) (times : clockTimes (l .now) (e ∷ es) ≡ clockTimes (l .now) es) where
+  module _ (l : Being) (e : Event) (es : List Event) (times : clockTimes (l .now) (e ∷ es) ≡ clockTimes (l .now) es) where
     quiet-on : Lasts l (e ∷ es) → Lasts l es
     quiet-on f = record {
       is-alive = f .is-alive;
@@ -265,15 +265,15 @@ module _ (a : Address) where
     }
 
   -- A clock call that is not refused.
-  module _ (l : Life) (now : ℕ) (es : List Event) (goes : backOrAbove (l .now) now ≡ false) where
-    abbrev aged-life : Life
-    aged-life = record { sender = aged 0 now (l .sender); now = now }
+  module _ (l : Being) (now : ℕ) (es : List Event) (goes : backOrAbove (l .now) now ≡ false) where
+    abbrev aged-being : Being
+    aged-being = record { sender = aged 0 now (l .sender); now = now }
 
     times : clockTimes (l .now) (clock now ∷ es) ≡ now ∷ clockTimes now es
     unfolding clockTimes
     times = rw goes
 
-    tick-on : Lasts l (clock now ∷ es) → Lasts aged-life es
+    tick-on : Lasts l (clock now ∷ es) → Lasts aged-being es
     tick-on f =
         let d = spared now (l .sender) (f .is-alive) (f .young now (rw times (List·Memᴰ·head refl))) in
         record {
@@ -282,7 +282,7 @@ module _ (a : Address) where
           young = λ x m. rw (d .1) (f .young x (rw times (List·Memᴰ·tail m)));
         }
 
-    tick-back : Lasts aged-life es → Lasts l (clock now ∷ es)
+    tick-back : Lasts aged-being es → Lasts l (clock now ∷ es)
     tick-back f =
         let b = was-spared now (l .sender) (f .is-alive) in
         let d = spared now (l .sender) (b .0) (b .1) in
@@ -294,7 +294,7 @@ module _ (a : Address) where
 
   -- ---- a past that leaves it alive
 
-  lasts-on : (l : Life) (e : Event) (es : List Event) → Lasts l (e ∷ es) → Lasts (lifeBy a l e) es
+  lasts-on : (l : Being) (e : Event) (es : List Event) → Lasts l (e ∷ es) → Lasts (beingBy a l e) es
   unfolding senderBy movedBy clockTimes
   lasts-on l (message packet) es f = quiet-on l (message packet) es refl f
   lasts-on l (alive packet) es f = rw (f .since packet (List·Memᴰ·head refl)) (quiet-on l (alive packet) es refl f)
@@ -304,27 +304,27 @@ module _ (a : Address) where
       (true-or-false (backOrAbove (l .now) now))
   lasts-on l (aside call) es f = quiet-on l (aside call) es refl f
 
-  lasts-to : (l : Life) (es : List Event) → Lasts l es → lifeAfter a l es .sender .alive ≡ true
+  lasts-to : (l : Being) (es : List Event) → Lasts l es → beingAfter a l es .sender .alive ≡ true
   lasts-to l [] f = f .is-alive
-  lasts-to l (e ∷ es) f = lasts-to (lifeBy a l e) es (lasts-on l e es f)
+  lasts-to l (e ∷ es) f = lasts-to (beingBy a l e) es (lasts-on l e es f)
 
-  by-alive : (es : List Event) → AliveBy a es → lifeAfter a newLife es .sender .alive ≡ true
+  by-alive : (es : List Event) → AliveBy a es → beingAfter a newBeing es .sender .alive ≡ true
   by-alive es f =
-      let l = lifeAfter a newLife (f .before) in
-      let now : l .now ≡ f .stamp = now-after newLife (f .before) ∙ sym (f .stamped) in
-      rw (f .split, foldl-append (lifeBy a) newLife (f .before) (alive (f .packet) ∷ f .later))
-      (lasts-to (lifeBy a l (alive (f .packet))) (f .later)
-      (rw (signal-life l (f .packet) (f .signal) (f .says)) (record { is-alive = refl; since = f .since; young = rw now (f .young) })))
+      let l = beingAfter a newBeing (f .before) in
+      let now : l .now ≡ f .stamp = now-after newBeing (f .before) ∙ sym (f .stamped) in
+      rw (f .split, foldl-append (beingBy a) newBeing (f .before) (alive (f .packet) ∷ f .later))
+      (lasts-to (beingBy a l (alive (f .packet))) (f .later)
+      (rw (signal-being l (f .packet) (f .signal) (f .says)) (record { is-alive = refl; since = f .since; young = rw now (f .young) })))
 
   -- ---- what is in a past that leaves it alive
 
   -- After the calls `past` it is as l says.
-  module _ (past : List Event) (l : Life) (now-is : l .now ≡ timeAfter 0 past) where
-    by-signal : (packet : List ℕ) (es : List Event) → isSignal a packet ≡ true → Lasts (lifeBy a l (alive packet)) es → AliveBy a (past ++ (alive packet ∷ es))
+  module _ (past : List Event) (l : Being) (now-is : l .now ≡ timeAfter 0 past) where
+    by-signal : (packet : List ℕ) (es : List Event) → isSignal a packet ≡ true → Lasts (beingBy a l (alive packet)) es → AliveBy a (past ++ (alive packet ∷ es))
     unfolding senderBy movedBy
     by-signal packet es e f =
         let one = heard-mode (l .now) (l .sender) (bodyOf packet) (rw e at (f .is-alive)) in
-        let g = rw (signal-life l packet e one) at f in
+        let g = rw (signal-being l packet e one) at f in
         record {
           before = past;
           packet = packet;
@@ -339,7 +339,7 @@ module _ (a : Address) where
         }
 
     -- Alive after e and to stay so, it was so before e, or is so by e.
-    lasts-back : (e : Event) (es : List Event) → Lasts (lifeBy a l e) es → Lasts l (e ∷ es) ⊎ AliveBy a (past ++ (e ∷ es))
+    lasts-back : (e : Event) (es : List Event) → Lasts (beingBy a l e) es → Lasts l (e ∷ es) ⊎ AliveBy a (past ++ (e ∷ es))
     unfolding senderBy movedBy clockTimes isOwn
     lasts-back (message packet) es f = inl (quiet-back l (message packet) es refl refl f)
     lasts-back (alive packet) es f = ⊎-elim
@@ -353,28 +353,28 @@ module _ (a : Address) where
     lasts-back (aside call) es f = inl (quiet-back l (aside call) es refl refl f)
 
   -- Alive after es, it was so before and stayed so, or is so by the calls up to there.
-  found-by : (past : List Event) (l : Life) → l .now ≡ timeAfter 0 past → (es : List Event) → lifeAfter a l es .sender .alive ≡ true
+  found-by : (past : List Event) (l : Being) → l .now ≡ timeAfter 0 past → (es : List Event) → beingAfter a l es .sender .alive ≡ true
       → Lasts l es ⊎ AliveBy a (past ++ es)
   unfolding clockTimes
   found-by past l now-is [] is = inl (record { is-alive = is; since = λ packet m. absurd (List·Memᴰ·not-nil m); young = λ now m. absurd (List·Memᴰ·not-nil m) })
   found-by past l now-is (e ∷ es) is = ⊎-elim
       (lasts-back past l now-is e es)
       (λ f. inr (subst (AliveBy a) (append-assoc past (e ∷ []) es) f))
-      (found-by (past ++ (e ∷ [])) (lifeBy a l e) (ap (λ (t : ℕ). movedBy t e) now-is ∙ sym (foldl-append movedBy 0 past (e ∷ []))) es is)
+      (found-by (past ++ (e ∷ [])) (beingBy a l e) (ap (λ (t : ℕ). movedBy t e) now-is ∙ sym (foldl-append movedBy 0 past (e ∷ []))) es is)
 
 -- ---- every past
 
 module _ (w : World) (start : Start w) (es : List Event) (i : ℕ) (here : i < w .state .count) where
-  alive-is : senderAt (after w es .state) i .alive ≡ lifeAfter (addressAt (w .state .senders) i) newLife es .sender .alive
-  unfolding life
-  alive-is = ap (λ (l : Life). l .sender .alive) (life-after w (start-sound w start) i here es) ∙ rw (start-life w start i here)
+  alive-is : senderAt (after w es .state) i .alive ≡ beingAfter (addressAt (w .state .senders) i) newBeing es .sender .alive
+  unfolding being
+  alive-is = ap (λ (l : Being). l .sender .alive) (being-after w (start-sound w start) i here es) ∙ rw (start-being w start i here)
 
   -- Who is alive is so by the past,
   pub alive-after : senderAt (after w es .state) i .alive ≡ true → AliveBy (addressAt (w .state .senders) i) es
   alive-after is = ⊎-elim
-      (λ (f : Lasts (addressAt (w .state .senders) i) newLife es). absurd (false≢true (f .is-alive)))
+      (λ (f : Lasts (addressAt (w .state .senders) i) newBeing es). absurd (false≢true (f .is-alive)))
       (λ f. f)
-      (found-by (addressAt (w .state .senders) i) [] newLife refl es (sym alive-is ∙ is))
+      (found-by (addressAt (w .state .senders) i) [] newBeing refl es (sym alive-is ∙ is))
 
   -- and who is so by the past is alive.
   pub after-alive : AliveBy (addressAt (w .state .senders) i) es → senderAt (after w es .state) i .alive ≡ true

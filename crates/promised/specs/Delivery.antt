@@ -12,6 +12,7 @@ use Rattle.ring.specs.declared.Number.{Number}
 use Rattle.ring.specs.declared.Version.{Version}
 use Rattle.ring.specs.declared.Verdict.{Verdict}
 use Rattle.ring.specs.Check.{isRepeat, verdictNumber}
+use Rattle.header.specs.Codes.{within}
 use Rattle.header.specs.declared.Given.{Given}
 use Rattle.header.specs.Head.{headOf}
 use Rattle.header.specs.Places.{headerSize}
@@ -23,7 +24,7 @@ use Rattle.state.specs.Limits.{sameAddress, given}
 use Rattle.answers.specs.declared.Setup.{Setup}
 use Rattle.answers.specs.Told.{leastRefusal, OutcomeTold, notDelivered, deliveredAs, MessageTold}
 use Rattle.rules.specs.pasts.Past.{Event, message, alive, clock, aside, Answers}
-use Rattle.promised.specs.Judged.{within, isFrom}
+use Rattle.promised.specs.Judged.{isFrom}
 use Rattle.promised.specs.Log.{ToldOf, toldBy, Exchange, exchange, calls, Name, Delivery, deliveries, lastOf, sameMessage, openOf}
 use Rattle.promised.specs.Says.{sendersOf, isLarger, verdictAfter}
 

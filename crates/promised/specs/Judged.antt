@@ -4,14 +4,12 @@ use mathlib.Core.Bool.{Bool, _&&_}
 use mathlib.Core.List.{List}
 use lib.Dec.{eqb, leb}
 use lib.ListN.{length}
+use Rattle.header.specs.Codes.{within}
 use Rattle.header.specs.Head.{headOf, isFixed}
 use Rattle.signal.specs.Alive.{bodyOf}
 use Rattle.state.specs.declared.Address.{Address}
 use Rattle.state.specs.Limits.{sameAddress}
 use Rattle.state.specs.Table.{source}
-
-abbrev pub within : (least most k : ℕ) → Bool
-within least most k = leb least k && leb k most
 
 -- "PDU too short …, too long …, or length unlike BSIZE"
 abbrev pub hasLength : (least most : ℕ) → List ℕ → Bool

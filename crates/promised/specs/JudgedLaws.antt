@@ -8,12 +8,13 @@ use lib.Dec.{eqb, leb, ltb}
 use lib.ListN.{length}
 use borrow.Author.Tests.{le-leb, lt-leb, le-ltb, lt-ltb}
 use Rattle.octets.specs.Split.{lt-or-le}
+use Rattle.header.specs.Codes.{within}
 use Rattle.header.specs.CodesLaws.{user-within, alive-only}
 use Rattle.header.specs.Head.{headOf, lengthOutside}
 use Rattle.signal.specs.Alive.{bodyOf, isBody}
 use Rattle.rules.specs.calls.Alive.{aliveLengthWrong, aliveHeadWithin, aliveWithin}
 use Rattle.rules.specs.calls.Message.{lengthWrong, headWithin}
-use Rattle.promised.specs.Judged.{within, hasLength, isMessage, inOrder, isAlive, hasBody}
+use Rattle.promised.specs.Judged.{hasLength, isMessage, inOrder, isAlive, hasBody}
 
 not-below : (a b : ℕ) → ltb a b ≡ not (leb b a)
 not-below a b = ⊎-elim (λ h. rw (lt-ltb a b h, lt-leb b a h)) (λ h. rw (le-ltb a b h, le-leb b a h)) (lt-or-le a b)

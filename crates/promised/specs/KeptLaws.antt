@@ -31,7 +31,7 @@ use Rattle.rules.specs.calls.Message.{messageRows, messageNumber, messageAnswer
 use Rattle.rules.specs.pasts.Past.{World, Event, message, alive, clock, aside, question, step, answerTo, said}
 use Rattle.promised.specs.Judged.{inOrder, isFrom, sentFrom}
 use Rattle.promised.specs.AlivePast.{isSignal}
-use Rattle.promised.specs.AlivePastLaws.{Life as Being, living, life, senderBy, signal-own, signal-none, heeded-other, life-step}
+use Rattle.promised.specs.AlivePastLaws.{Being, living, being, senderBy, signal-own, signal-none, heeded-other, being-step}
 use Rattle.promised.specs.Log.{toldBy, Exchange, exchange, timeOf, Name, nameOf, Delivery, deliveries, lastOf, openOf, stampOf, Life, dead, heardAt, lifeOf}
 use Rattle.promised.specs.LogLaws.{Tells, message-each, clock-each, lastWith, after-own, after-clock}
 use Rattle.promised.specs.SafeLaws.{in-order-size, from-accepted}
@@ -234,12 +234,12 @@ module _ (g : Settings) (a : Address) (i : ℕ) (w : World) (r : Registered g a 
       (heeded-other a packet (w .state) no (eqb-true _ 0 (and-right (sentFrom a packet) (eqb (first (aliveRows (w .state) packet)) 0) e)))))
       (true-or-false (isSignal a packet))))
 
-  kept-life : (e : Event) → living (senderAt (step w e .state) i) ≡ senderBy a (life w i) e
-  unfolding life
-  kept-life e = ap (λ (l : Being). l .sender) (life-step w (r .sound) i (r .here) e) ∙ rw (r .address)
+  kept-life : (e : Event) → living (senderAt (step w e .state) i) ≡ senderBy a (being w i) e
+  unfolding being
+  kept-life e = ap (λ (l : Being). l .sender) (being-step w (r .sound) i (r .here) e) ∙ rw (r .address)
 
   pub life-log : (e : Event) → LivesLog a i (exchange e (toldBy e (said w e)) ∷ log) (step w e)
-  unfolding senderBy lifeOf said life
+  unfolding senderBy lifeOf said being
   life-log (message packet) = kept-life (message packet) ∙ t
   life-log (alive packet) =
       let heard = sentFrom a packet && eqb (callNumber (aliveAnswer (w .state) packet .call)) 0 in

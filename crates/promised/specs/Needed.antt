@@ -11,6 +11,7 @@ use lib.Dec.{eqb}
 use lib.ListN.{length, replicate}
 use Rattle.ring.specs.declared.Verdict.{Verdict}
 use Rattle.ring.specs.Check.{isRepeat}
+use Rattle.header.specs.Codes.{within}
 use Rattle.header.specs.declared.Given.{Given}
 use Rattle.header.specs.Head.{headOf}
 use Rattle.cut.specs.Cutter.{pdu}
@@ -22,7 +23,7 @@ use Rattle.rules.specs.calls.Message.{area}
 use Rattle.rules.specs.calls.Setup.{setupAnswer}
 use Rattle.rules.specs.pasts.Past.{World, Event, message, clock, aside, question, after, answerTo, partTo, Answers, answers, Start}
 use Rattle.promised.specs.Delivery.{Sent, sentBy, PieceOf, nameIn, openFor, verdictFor, May, Between, OnlyPieces, Arrives, Once}
-use Rattle.promised.specs.Judged.{within, isFrom}
+use Rattle.promised.specs.Judged.{isFrom}
 use Rattle.promised.specs.Log.{Exchange, logged, calls}
 use Rattle.promised.specs.Says.{sendersOf, isLarger}
 

@@ -16,7 +16,7 @@ use Rattle.ring.specs.declared.Verdict.{Verdict}
 use Rattle.ring.specs.Check.{check, rule4, isRepeat}
 use Rattle.ring.specs.Ring.{remainder, newer}
 use Rattle.header.specs.declared.Cut.{Cut}
-use Rattle.header.specs.Codes.{codeOf}
+use Rattle.header.specs.Codes.{codeOf, within}
 use Rattle.header.specs.Head.{header, headOf, isFixed}
 use Rattle.header.specs.Layout.{layout, tabulate, octetOf}
 use Rattle.cut.specs.Cutter.{pdu}
@@ -35,7 +35,7 @@ use Rattle.promised.specs.AgreesLaws.{Agrees, agrees-start, agrees-step}
 use Rattle.promised.specs.BetweenLaws.{between-by}
 use Rattle.promised.specs.CameLaws.{decided, dec-by, dec-or, dec-true, dec-eq, dec-le, dec-octets, dec-cut, dec-piece, dec-brings, dec-came, others, one-applies}
 use Rattle.promised.specs.Delivery.{Sent, PieceOf, nameIn, openFor, verdictFor, May, Allowed, Between, OnlyPieces, OneApplies, is-last, is-one, came-before, all-came, Arrives, Once}
-use Rattle.promised.specs.Judged.{within, inOrder, isFrom}
+use Rattle.promised.specs.Judged.{inOrder, isFrom}
 use Rattle.promised.specs.Log.{ToldOf, toldBy, Exchange, exchange, logged, calls, timeOf, deliveries, lastOf, sameMessage, openOf, stampOf}
 use Rattle.promised.specs.Needed.{Example, sent, packet, start, before, log, answersSince, verdict, finds, outcome, part, Promise, Condition, registered, length-within, unit-within, version-not-0, unheard, no-repeat, none-larger, admits, only-pieces, kept, NoneAsked, Fulfilled, Met, Needed, example, tested, without}
 use Rattle.promised.specs.PastSaysLaws.{says-is, agrees-after, log-is}

@@ -16,6 +16,7 @@ use Rattle.ring.specs.Ring.{OnRing, isNumber, newer}
 use Rattle.ring.specs.declared.Verdict.{Verdict}
 use Rattle.ring.specs.Check.{check}
 use Rattle.ring.specs.RingLaws.{on-ring, same-version, same-number}
+use Rattle.header.specs.Codes.{within as inRange}
 use Rattle.header.specs.declared.Cut.{Cut}
 use Rattle.header.specs.declared.Head.{Head}
 use Rattle.header.specs.Head.{headOf}
@@ -32,7 +33,7 @@ use Rattle.state.specs.declared.Message.{Message}
 use Rattle.state.specs.declared.Sender.{Sender}
 use Rattle.rules.specs.calls.Admit.{rejoins, sameCut, verdictOf, senderRows, mapAfter, fills}
 use Rattle.promised.specs.JoinLaws.{kinIn}
-use Rattle.promised.specs.Judged.{within as inRange, hasLength, hasHeader, isMessage, sentFrom, inOrder, isFrom}
+use Rattle.promised.specs.Judged.{hasLength, hasHeader, isMessage, sentFrom, inOrder, isFrom}
 use Rattle.promised.specs.Delivery.{Sent, count, Numbered, PieceOf}
 use Rattle.rules.specs.calls.AdmitLaws.{fills-full}
 use Rattle.rules.specs.calls.First.{first}

@@ -14,6 +14,7 @@ use Rattle.octets.specs.Run.{run}
 use Rattle.octets.specs.RunLaws.{length-run, run-run}
 use Rattle.octets.specs.Split.{true-or-false, never-both, both, and-left, and-right, eq-or-ne}
 use Rattle.ring.specs.declared.Verdict.{Verdict}
+use Rattle.header.specs.Codes.{within}
 use Rattle.header.specs.declared.Head.{Head}
 use Rattle.header.specs.Head.{headOf}
 use Rattle.header.specs.Places.{headerSize}
@@ -26,7 +27,7 @@ use Rattle.state.specs.State.{senderAt, Settings}
 use Rattle.state.specs.Table.{source, found}
 use Rattle.answers.specs.declared.Answer.{Answer}
 use Rattle.answers.specs.declared.Outcome.the-variants.{Refused, Stored, Delivered}
-use Rattle.promised.specs.Judged.{within, hasLength, isMessage, inOrder, isFrom}
+use Rattle.promised.specs.Judged.{hasLength, isMessage, inOrder, isFrom}
 use Rattle.rules.specs.calls.Admit.{rejoins, fills, admitted}
 use Rattle.rules.specs.calls.AdmitLaws.{admitted-facts}
 use Rattle.promised.specs.Join.{Joined, behind}
