@@ -46,7 +46,7 @@ pub fn alive(mut state: Receiver, packet: &[u8]) -> Noted
 }
 
 // The first of 9, 12, 13, 14 and 22 that applies, or 0.
-fn signal_number(valid: bool, count: u8, at: u8, packet: &[u8], h: Head, body: Body) -> u8
+pub fn signal_number(valid: bool, count: u8, at: u8, packet: &[u8], h: Head, body: Body) -> u8
     ensures { λ r. ⌜ r ≡ first (signalRows valid count at (now (packet .entry)) h body) ⌝ }
 {
     let size = packet.len();

@@ -103,6 +103,7 @@ pub struct Answer {
 }
 
 // What setup takes. Places of the table past the count are not looked at.
+#[repr(C)]
 pub struct Setup {
     pub mode: u8,
     pub n1: u16,

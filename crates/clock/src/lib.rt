@@ -67,7 +67,7 @@ fn dies(s: Sender, ms: u64) -> bool
 }
 
 // How long ago a stamp is; 0 for a stamp that is not reached yet.
-fn since(stamp: u64, ms: u64) -> u64
+pub fn since(stamp: u64, ms: u64) -> u64
     ensures { λ r. ⌜ r ≡ ms - stamp ⌝ }
 {
     if stamp <= ms { ms - stamp } else { 0 }

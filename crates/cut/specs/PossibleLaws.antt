@@ -3,7 +3,7 @@ use mathlib.Core.Path.{_≡_, refl, sym, _∙_}
 use mathlib.Core.Logic.{_≢_, ⊎-elim}
 use mathlib.Core.Bool.{Bool, true, cond, _&&_}
 use Prim.Native.Nat.{ℕ, _+_, _-_, _*_, _/_, _%_, _≤_, _<_}
-use native.Mathlib.Nat.{mul-comm, div-add-mod', mul-le-mul-right, zero-mul}
+use native.Mathlib.Nat.{mul-comm, div-add-mod', div-le-self, mul-le-mul-right, zero-mul}
 use native.Mathlib.Omega.{arith}
 use lib.Dec.{eqb, leb, ltb}
 use borrow.Author.Tests.{leb-true, ltb-true, ltb-false, eqb-true, eqb-false, eq-eqb, ne-eqb, le-leb, lt-ltb, le-ltb}
@@ -11,7 +11,7 @@ use Rattle.octets.specs.Split.{lt-or-le, eq-or-ne, cond-case, both, and-left, a
 use Rattle.header.specs.declared.Cut.{Cut}
 use Rattle.header.specs.Places.{headerSize}
 use Rattle.cut.specs.Pieces.{mostOctets, leastUnit, mostUnit, pieces, piecePlace, pieceLength}
-use Rattle.cut.specs.PiecesLaws.{times, pieces-one, pieces-two, pieces-cover, pieces-below, pieces-only, pieces-most, length-front, length-last, length-only, piece-end}
+use Rattle.cut.specs.PiecesLaws.{times, product-below, pieces-one, pieces-two, pieces-cover, pieces-below, pieces-only, pieces-most, length-front, length-last, length-only, piece-end}
 use Rattle.cut.specs.Possible.{messageLength, ownLength, unit, ownPlace, isUnit, frontPossible, lastPossible, severalPossible, possible}
 
 -- ---- what a possible cut says
@@ -21,6 +21,20 @@ pub record IsCut (n t u c p : ℕ) : Type 0 where
   pub count : pieces n u ≡ t
   pub own : p ≡ pieceLength n u c
   pub start : piecePlace u c ≤ n
+
+-- No cut, possible or not, says a longer unit than its message or its PDU is,
+unit-most : (c : Cut) (k : ℕ) → c .ml ≤ k → c .bsize ≤ k → unit c ≤ k
+unfolding unit
+unit-most c k h g = cond-case (λ (u : ℕ). u ≤ k) (eqb (c .tbn) 1) _ _
+    (λ _. omega arith)
+    (λ _. cond-case (λ (u : ℕ). u ≤ k) (ltb (c .cbn) (c .tbn)) _ _
+    (λ _. omega arith)
+    (λ _. omega (arith, div-le-self (messageLength c - ownLength c) (c .tbn - 1))))
+
+-- so that a place is within what 64 bits hold.
+pub place-most : (c : Cut) → c .ml < 4294967296 → c .bsize < 65536 → c .cbn < 256 → ownPlace c < 1095216660226
+place-most c h g f =
+    product-below (c .cbn - 1) (unit c) 255 4294967295 (omega arith) (unit-most c 4294967295 (omega arith) (omega arith)) (omega arith)
 
 unit-one : (c : Cut) → c .tbn ≡ 1 → unit c ≡ messageLength c
 unfolding unit

@@ -60,9 +60,11 @@ pub fn is_pri(pri: u8) -> bool
 }
 
 // 1 to 255
+#[repr(C)]
 pub struct DataField(pub u8);
 
 // 1 to 4,095
+#[repr(C)]
 pub struct Node(pub u16);
 
 impl DataField {

@@ -33,6 +33,7 @@ pub const SIZE: usize = 64;
 const NUXM: u32 = 0x4e55_584d;
 
 // What the caller gives for every piece of a message: all of Table 7 but the fixed fields and what the cut makes.
+#[repr(C)]
 pub struct Given {
     pub field: DataField,
     pub node: Node,

@@ -11,7 +11,7 @@ use lib.Count.{ones, ones-step, ones-ones, ones-le, trailingZeros}
 use lib.Dec.{eqb, leb, ltb}
 use lib.Pow.{pow-pos, pow-mono, pow-lt, shr-shr, split, high, ones-split, ones-lt}
 use borrow.Author.Tests.{eqb-true, eqb-false, eq-eqb, ne-eqb, le-leb, lt-leb, leb-false, lt-ltb, le-ltb, not-true}
-use Rattle.octets.specs.Split.{lt-or-le, eq-or-ne, same-test, both, and-left, and-right}
+use Rattle.octets.specs.Split.{lt-or-le, eq-or-ne, cond-case, same-test, both, and-left, and-right}
 use Rattle.map.specs.Map.{bit, holds, pieceBit, fullMap, holdsAll, isEmpty, markedPast, isFull, marked, lowest}
 
 -- ---- bits
@@ -247,6 +247,11 @@ code-lowest (suc n) m h = ⊎-elim
     let z : (2 ^ suc n - 1 - m) / 2 ≡ 2 ^ n - 1 - m / 2 = omega (arith, pow-pos n) in
     rw (o, d, z) (ap suc (code-lowest n (m / 2) (omega arith))))
     (eq-or-ne (m % 2) 0)
+
+pub lowest-most : (n m : ℕ) → lowest n m ≤ n
+unfolding lowest
+lowest-most zero m = omega arith
+lowest-most (suc n) m = cond-case (λ (k : ℕ). k ≤ suc n) (eqb (m % 2) 0) 0 (suc (lowest n (m / 2))) (λ _. omega arith) (λ _. omega (arith, lowest-most n (m / 2)))
 
 -- The lowest clear bit is the first that is found in their order.
 pub lowest-first : (n k m : ℕ) → k < n → ((j : ℕ) → j < k → bit j m ≡ 1) → bit k m ≡ 0 → lowest n m ≡ k

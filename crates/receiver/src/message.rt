@@ -1,18 +1,15 @@
 // The message call. One function holds the state: it finds the sender's place, copies that one record out, and puts it
 // back.
 ghost use mathlib.Core.Path.{_≡_};
-ghost use mathlib.Core.Bool.{true};
-ghost use Prim.Native.Nat.{_+_, _<_};
 ghost use lib.ListN.{length};
-ghost use Rattle.cut.specs.Possible.{possible};
 ghost use Rattle.rules.specs.calls.First.{first};
-ghost use Rattle.state.specs.State.{sendersMost};
 ghost use Rattle.rules.specs.calls.Message.{packetRows, headWithin, storageAfter, liesAt, whereBy, messageAnswer, messageStorage};
 use answers::Answer;
 use answers::Dropped;
 use answers::Outcome;
 use answers::Where;
 use cut::possible::message_length;
+use cut::possible::own_length;
 use cut::possible::own_place;
 use header::Head;
 use header::SIZE;
@@ -21,6 +18,7 @@ use header::common_within;
 use header::length_outside;
 use header::read_head;
 use octets::lay;
+use octets::run;
 use sender::admit;
 use state::Address;
 use state::Receiver;
@@ -73,7 +71,7 @@ pub fn message(mut state: Receiver, storage: &mut [u8], packet: &[u8]) -> Answer
 }
 
 // The first of 9 and 11 to 14 that applies, or 0.
-fn packet_number(valid: bool, count: u8, at: u8, room: usize, packet: &[u8], h: Head) -> u8
+pub fn packet_number(valid: bool, count: u8, at: u8, room: usize, packet: &[u8], h: Head) -> u8
     ensures { λ r. ⌜ r ≡ first (packetRows valid count at room (now (packet .entry)) h) ⌝ }
 {
     let size = packet.len();
@@ -102,8 +100,7 @@ fn head_within(packet: &[u8], h: Head) -> bool
 }
 
 // Where the message lies, if it was delivered.
-fn where_to(o: Outcome, at: u8, h: Head) -> Where
-    requires { ⌜ at < sendersMost ⌝ }
+pub fn where_to(o: Outcome, at: u8, h: Head) -> Where
     ensures { λ r. ⌜ r ≡ whereBy o at h ⌝ }
 {
     match o {
@@ -115,7 +112,6 @@ fn where_to(o: Outcome, at: u8, h: Head) -> Where
 
 // A message of one piece lies behind its header, one of several at the start of its sender's area.
 fn lies(at: u8, h: Head) -> Where
-    requires { ⌜ at < sendersMost ⌝ }
     ensures { λ r. ⌜ r ≡ liesAt at h ⌝ }
 {
     let cut = h.cut;
@@ -129,13 +125,12 @@ fn lies(at: u8, h: Head) -> Where
 }
 
 // Lays a piece of several down in its sender's area.
-fn store(storage: &mut [u8], at: u8, h: Head, packet: &[u8])
-    requires { ⌜ (at < sendersMost) × (possible (h .cut) ≡ true) × (length (now packet) ≡ h .cut .bsize) ⌝ }
+pub fn store(storage: &mut [u8], at: u8, h: Head, packet: &[u8])
     ensures { λ _. ⌜ now (storage .exit) ≡ storageAfter (now (storage .entry)) at h (now (packet .entry)) ⌝ }
 {
     let cut = h.cut;
     if cut.tbn != 1 {
         let start = (at as usize) * Receiver::AREA + own_place(cut) as usize;
-        lay(storage, start, &packet[SIZE..]);
+        lay(storage, start, run(packet, SIZE, own_length(cut) as usize));
     }
 }

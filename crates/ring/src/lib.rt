@@ -11,9 +11,11 @@ ghost use Rattle.ring.specs.Ring.{M as last, back as backOf, newer as is
 ghost use Rattle.ring.specs.Check.{check, verdictNumber, verdictSkipped, isRepeat, isUnchecked};
 
 // V_SEQ: any 32-bit number.
+#[repr(C)]
 pub struct Version(pub u32);
 
 // SEQ: 1 to M, used cyclically.
+#[repr(C)]
 pub struct Number(pub u32);
 
 pub const M: u32 = 2_147_483_647;

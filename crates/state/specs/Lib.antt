@@ -1,7 +1,8 @@
 pub mod State
 pub mod Limits
 pub mod LimitsLaws
-pub mod private
+pub mod Key
+pub mod KeyLaws
 pub mod WithinLaws
 pub mod Table
 pub mod TableLaws

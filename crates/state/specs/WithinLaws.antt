@@ -77,7 +77,7 @@ message-later clock now m h e =
 -- ---- a sender
 
 -- What is not open or not alive is not looked at: a test that counts only where another holds.
-if-so : (a b : Bool) → not a || b ≡ true → a ≡ true → b ≡ true
+pub if-so : (a b : Bool) → not a || b ≡ true → a ≡ true → b ≡ true
 if-so true b e f = e
 if-so false b e f = absurd (false≢true f)
 
@@ -91,7 +91,7 @@ pub record SenderWithin (clock : ℕ) (s : Sender) : Type 0 where
   pub message : s .«open» ≡ true → messageWithin clock (s .message) ≡ true
   pub heard : s .alive ≡ true → s .heard .stamp ≤ clock
 
-sender-facts : (clock : ℕ) (s : Sender) → senderWithin clock s ≡ true → SenderWithin clock s
+pub sender-facts : (clock : ℕ) (s : Sender) → senderWithin clock s ≡ true → SenderWithin clock s
 unfolding senderWithin
 sender-facts clock s e =
     let a1 = isAddress (s .address) in
@@ -108,7 +108,7 @@ sender-facts clock s e =
       heard = λ h. leb-true (s .heard .stamp) clock (if-so (s .alive) stamp e4 h);
     }
 
-sender-of : (clock : ℕ) (s : Sender) → SenderWithin clock s → senderWithin clock s ≡ true
+pub sender-of : (clock : ℕ) (s : Sender) → SenderWithin clock s → senderWithin clock s ≡ true
 unfolding senderWithin
 sender-of clock s f =
     let message = so-if (s .«open») (messageWithin clock (s .message)) (f .message) in
@@ -215,6 +215,10 @@ valid-sender w e i h =
 
 -- ---- "no pair twice"
 
+-- No sender before it has its address.
+pub valid-new : (w : Receiver) → valid w ≡ true → (i : ℕ) → i < w .count → newAmong (addressAt (w .senders)) i (addressAt (w .senders) i) ≡ true
+valid-new w e i h = senders-each (w .clock) (w .senders) (w .count) (valid-senders w e) i h .new
+
 new-each : (f : ℕ → Address) (k : ℕ) (a : Address) → newAmong f k a ≡ true → (j : ℕ) → j < k → sameAddress (f j) a ≡ false
 unfolding newAmong
 new-each f zero a e j h = absurd (omega arith)
@@ -228,7 +232,7 @@ new-each f (suc k) a e j h = ⊎-elim
 pub valid-apart : (w : Receiver) → valid w ≡ true → (i : ℕ) → i < w .count → (j : ℕ) → j < i
     → sameAddress (addressAt (w .senders) j) (addressAt (w .senders) i) ≡ false
 valid-apart w e i here j less =
-    new-each (addressAt (w .senders)) i (addressAt (w .senders) i) (senders-each (w .clock) (w .senders) (w .count) (valid-senders w e) i here .new) j less
+    new-each (addressAt (w .senders)) i (addressAt (w .senders) i) (valid-new w e i here) j less
 
 pub same-is : (a b : Address) → sameAddress a b ≡ true → a ≡ b
 same-is a b e =

@@ -7,7 +7,7 @@ ghost use mathlib.Core.Bool.{cond, not, _||_};
 ghost use Prim.Native.Nat.{_+_, _≤_, _<_};
 ghost use lib.Dec.{ltb};
 ghost use Rattle.state.specs.Limits.{isAddress, sameAddress, lastWithin, messageWithin, senderWithin, settingsWithin, addressesWithin, valid};
-ghost use Rattle.state.specs.private.Key.{keyOf, Narrow, newKey};
+ghost use Rattle.state.specs.Key.{keyOf, Narrow, newKey};
 ghost use Rattle.state.specs.Table.{source, lookAt};
 ghost use Rattle.state.specs.State.{sendersMost, newSender, withMessage, withHeard, withLast, emptyReceiver};
 use cut::pieces::MOST_OCTETS;
@@ -47,6 +47,7 @@ pub struct Heard {
 }
 
 // Where a sender sends from.
+#[repr(C)]
 pub struct Address {
     pub field: DataField,
     pub node: Node,
@@ -125,7 +126,7 @@ impl Address {
         while i < count {
             let a = senders[i as usize];
             let key = a.key();
-            within = within & (a.within() & fresh(&seen, i, key));
+            within = within & (a.within() & fresh(&seen, key));
             seen[i as usize] = key;
             i += 1;
         }
@@ -308,7 +309,7 @@ impl Receiver {
             let s = self.senders[i as usize];
             let b = s.address;
             let key = b.key();
-            valid = valid & (s.within(clock) & fresh(&seen, i, key));
+            valid = valid & (s.within(clock) & fresh(&seen, key));
             seen[i as usize] = key;
             at = Look::next_place(at, i, b.same(a));
             i += 1;
@@ -328,7 +329,7 @@ pub struct Look {
 
 impl Look {
     // A state outside its limits.
-    const OUTSIDE: Look = Look {
+    pub const OUTSIDE: Look = Look {
         valid: false,
         at: 0,
     };
@@ -346,15 +347,15 @@ impl Look {
     }
 }
 
-// Whether none of the first k numbers is this one.
-fn fresh(seen: &[u32; Receiver::PLACES], k: u8, key: u32) -> bool
-    requires { ⌜ k ≤ sendersMost ⌝ }
-    ensures { λ r. ⌜ r ≡ newKey (now (seen .entry)) k key ⌝ }
+// Whether none of the keys is this one. Places that hold none yet are 0, and no sender's key is: so the count is
+// constant, and all are compared at once.
+pub fn fresh(seen: &[u32; Receiver::PLACES], key: u32) -> bool
+    ensures { λ r. ⌜ r ≡ newKey (now (seen .entry)) sendersMost key ⌝ }
 {
     let mut new = true;
-    let mut j: u8 = 0;
-    while j < k {
-        new = new & (seen[j as usize] != key);
+    let mut j: usize = 0;
+    while j < Receiver::PLACES {
+        new = new & (seen[j] != key);
         j += 1;
     }
     new

@@ -3,23 +3,21 @@ use Prim.Native.Nat.{_≤_, _-_}
 use mathlib.Core.Path.{_≡_, refl}
 use native.Mathlib.Omega.{arith}
 use native.Mathlib.Numerals.{add-one}
-use Rattle.state.specs.private.Key.{newKey}
+use Rattle.state.specs.Key.{newKey}
+use Rattle.state.specs.State.{sendersMost}
 use borrow.Author.Needs.{needs}
 use Rattle.state.proofs.fresh.Statement.{statement}
 use Rattle.state.proofs.fresh.Tie as tie
 
 abbrev Inv-loop : tie.InvT-loop
-Inv-loop seen k key new₀ j₀ new j = (j ≤ k) × (new ≡ newKey seen j key)
+Inv-loop seen key new₀ j₀ new j = (j ≤ sendersMost) × (new ≡ newKey seen j key)
 
 abbrev μ-loop : tie.MeasureT-loop
-μ-loop seen k key new₀ j₀ new j = k - j
+μ-loop seen key new₀ j₀ new j = sendersMost - j
 
 loop-holds : tie.Need-loop-holds Inv-loop μ-loop
 unfolding newKey
 loop-holds c = (search needs, refl)
-
-cast-new : tie.Need-cast-new Inv-loop μ-loop
-cast-new c = omega arith
 
 mul-new : tie.Need-mul-new Inv-loop μ-loop
 mul-new c = omega arith
@@ -42,8 +40,7 @@ loop-again c =
 returns : tie.Need-returns Inv-loop μ-loop
 returns c =
     let l = c .before .loop in
-    let a = c .before .before .args in
-    let e : l .j ≡ a .k = omega arith in
+    let e : l .j ≡ sendersMost = omega arith in
     rw e at (l .inv .1)
 
 pub fresh-spec : {M : Type 1} → statement M
@@ -53,7 +50,6 @@ fresh-spec =
     Inv-loop
     μ-loop
     loop-holds
-    cast-new
     mul-new
     element-copy-out-new
     add-j

@@ -1,7 +1,7 @@
 -- One pass over the table, two judges, and what an admitted PDU does. Assumes nothing.
 use native.Mathlib.Omega.{arith}
 use denote.Ref.{now}
-use Rattle.rules.specs.calls.MessageLaws.{pass-refused, pass-facts, pass-place, pass-late, pass-admitted, pass-taken}
+use Rattle.rules.specs.calls.MessageLaws.{pass-refused, pass-place, pass-late, pass-taken}
 use Rattle.rules.specs.calls.Message.{refused, withSender}
 use borrow.Author.Needs.{needs}
 use Rattle.receiver.proofs.message.message.Statement.{statement}
@@ -58,25 +58,10 @@ returns-2 c =
     pass-late (a .t1) (now (a .storage)) (now (a .packet)) _ _ _ (head .read-head .ensures) (l .before .of .ensures) (l .look .ensures) _ (k .packet-number .ensures) (c .before .before .before .before .if1 .left) _ (c .before .before .admit .ensures) _ (c .before .refusal .ensures) (c .if2 .taken)
 
 store-requires : tie.Need-store-requires
-store-requires c κs =
-    let k = c .before .before .before .before .before .before in
-    let l = k .before in
-    let head = l .before .before in
-    let a = head .before .before .before .args in
-    let z = c .before .before .before .before .before .if1 .left in
-    let none = c .before .if2 .left in (
-      pass-place (a .t1) (now (a .storage)) (now (a .packet)) _ _ _ (head .read-head .ensures) (l .before .of .ensures) (l .look .ensures) _ (k .packet-number .ensures) z,
-      pass-admitted (a .t1) (now (a .storage)) (now (a .packet)) _ _ _ (head .read-head .ensures) (l .before .of .ensures) (l .look .ensures) _ (k .packet-number .ensures) z _ (c .before .before .before .admit .ensures) _ (c .before .before .refusal .ensures) none .cut-possible,
-      pass-facts (a .t1) (now (a .storage)) (now (a .packet)) _ _ _ (head .read-head .ensures) (l .before .of .ensures) (l .look .ensures) _ (k .packet-number .ensures) z .size,
-    )
+store-requires c κs = search needs
 
 where-to-requires : tie.Need-where-to-requires
-where-to-requires c κs =
-    let k = c .before .before .before .before .before .before .before .before .before .before .before in
-    let l = k .before in
-    let head = l .before .before in
-    let a = head .before .before .before .args in
-    pass-place (a .t1) (now (a .storage)) (now (a .packet)) _ _ _ (head .read-head .ensures) (l .before .of .ensures) (l .look .ensures) _ (k .packet-number .ensures) (c .before .before .before .before .before .before .before .before .before .before .if1 .left)
+where-to-requires c κs = search needs
 
 cast-next : tie.Need-cast-next
 cast-next c =

@@ -1,9 +1,8 @@
--- A piece of several is the whole of the packet behind its header. Assumes nothing.
+-- A place is within what 64 bits hold, whatever the cut says. Assumes nothing.
 use mathlib.Core.Path.{_∙_}
 use native.Mathlib.Omega.{arith}
 use borrow.Author.Tests.{eq-eqb, ne-eqb}
-use Rattle.cut.specs.PossibleLaws.{possible-facts, possible-within}
-use Rattle.octets.specs.Run.{run}
+use Rattle.cut.specs.PossibleLaws.{place-most}
 use Rattle.rules.specs.calls.Message.{storageAfter}
 use borrow.Author.Needs.{needs}
 use Rattle.receiver.proofs.message.store.Statement.{statement}
@@ -18,23 +17,16 @@ own-place-requires c κs = search needs
 add-start : tie.Need-add-start
 add-start c =
     let entry = c .before .before .before .before .before .before in
-    let f = possible-facts _ (entry .pre .1) in
-    omega (arith, c .own-place .ensures, possible-within _ (entry .pre .1))
+    omega (arith, c .own-place .ensures, place-most (entry .args .h .cut) (omega arith) (omega arith) (omega arith))
 
-sub-lay : tie.Need-sub-lay
-sub-lay c =
-    let entry = c .before .before .before .before .before .before .before in
-    let f = possible-facts _ (entry .pre .1) in
-    omega (arith, entry .pre .2)
+own-length-requires : tie.Need-own-length-requires
+own-length-requires c κs = search needs
 
-part-lay-start : tie.Need-part-lay-start
-part-lay-start c =
-    let entry = c .before .before .before .before .before .before .before in
-    let f = possible-facts _ (entry .pre .1) in
-    omega (arith, entry .pre .2)
+cast-run : tie.Need-cast-run
+cast-run c = search needs
 
-part-lay-end : tie.Need-part-lay-end
-part-lay-end c = search needs
+run-requires : tie.Need-run-requires
+run-requires c κs = search needs
 
 lay-requires : tie.Need-lay-requires
 lay-requires c κs = search needs
@@ -43,13 +35,13 @@ same-length : tie.Need-same-length
 same-length c = search needs
 
 returns : tie.Need-returns
-unfolding storageAfter run
+unfolding storageAfter
 returns c =
     let laid = c .before .before in
-    let found = laid .before .before .before in
-    let several = found .before in
-    let entry = several .before .before .before .before .before in
-    laid .lay .ensures ∙ rw (ne-eqb _ _ (several .if1 .taken), found .own-place .ensures, entry .pre .2)
+    let part = laid .before in
+    let own = part .before in
+    let found = own .before .before in
+    laid .lay .ensures ∙ rw (ne-eqb _ _ (found .before .if1 .taken), part .run .ensures, own .own-length .ensures, found .own-place .ensures)
 
 returns-2 : tie.Need-returns-2
 unfolding storageAfter
@@ -62,9 +54,9 @@ store-spec =
     mul-start
     own-place-requires
     add-start
-    sub-lay
-    part-lay-start
-    part-lay-end
+    own-length-requires
+    cast-run
+    run-requires
     lay-requires
     same-length
     returns

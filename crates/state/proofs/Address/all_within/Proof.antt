@@ -1,6 +1,6 @@
 -- After i turns the first i addresses have been judged. Assumes nothing.
 use Prim.Native.Nat.{_≤_, _-_}
-use mathlib.Core.Path.{_≡_, refl, sym}
+use mathlib.Core.Path.{_≡_, refl, sym, _∙_}
 use native.Mathlib.Omega.{arith}
 use borrow.Author.Needs.{needs}
 use lib.ListN.{length, length-set}
@@ -8,7 +8,7 @@ use Rattle.octets.specs.Split.{mapped-length}
 use Rattle.state.specs.Limits.{given, addressesWithin}
 use Rattle.state.specs.State.{sendersMost}
 use Rattle.state.specs.LimitsLaws.{addresses-more, addresses-few}
-use Rattle.state.specs.private.KeyLaws.{Seen, seen-none, seen-more, new-seen}
+use Rattle.state.specs.KeyLaws.{Seen, seen-none, seen-more, new-seen}
 use Rattle.state.proofs.Address.all_within.Statement.{statement}
 use Rattle.state.proofs.Address.all_within.Tie as tie
 
@@ -27,7 +27,7 @@ returns c =
 
 loop-holds : tie.Need-loop-holds Inv-loop μ-loop
 unfolding addressesWithin
-loop-holds c = (search needs, search needs, search needs, seen-none _ _, refl)
+loop-holds c = (search needs, search needs, search needs, seen-none _, refl)
 
 cast-a : tie.Need-cast-a Inv-loop μ-loop
 cast-a c = omega arith
@@ -45,7 +45,7 @@ within-requires : tie.Need-within-requires Inv-loop μ-loop
 within-requires c κs = search needs
 
 fresh-requires : tie.Need-fresh-requires Inv-loop μ-loop
-fresh-requires c κs = omega arith
+fresh-requires c κs = search needs
 
 cast-seen : tie.Need-cast-seen Inv-loop μ-loop
 cast-seen c = omega arith
@@ -71,7 +71,8 @@ loop-again c =
       omega arith,
       simp length-set (l .inv .2),
       seen-more (l .seen) _ (l .i) _ (omega arith) (key .key .ensures) (l .inv .3),
-      addresses-more _ (l .i) _ _ _ (l .inv .4) (within .within .ensures) (new-seen _ _ _ _ _ (key .key .ensures) (l .inv .3) (c .fresh .ensures)),
+      addresses-more _ (l .i) _ _ _ (l .inv .4) (within .within .ensures) (λ yes.
+          new-seen _ _ _ _ _ (omega arith) (key .key .ensures) (l .inv .3) (sym (within .within .ensures) ∙ yes) (c .fresh .ensures)),
     )
 
 returns-2 : tie.Need-returns-2 Inv-loop μ-loop

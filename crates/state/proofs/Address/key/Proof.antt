@@ -1,6 +1,6 @@
 -- A number of three octets, so nothing overflows. Assumes nothing.
 use mathlib.Core.Path.{refl}
-use Rattle.state.specs.private.Key.{keyOf}
+use Rattle.state.specs.Key.{keyOf}
 use borrow.Author.Needs.{needs}
 use Rattle.state.proofs.Address.key.Statement.{statement}
 use Rattle.state.proofs.Address.key.Tie as tie

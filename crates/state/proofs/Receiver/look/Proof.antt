@@ -1,14 +1,14 @@
 -- After i turns the first i senders have been judged, found and seen. Assumes nothing.
 use Prim.Native.Nat.{_≤_, _-_}
-use mathlib.Core.Path.{_≡_, refl, sym}
+use mathlib.Core.Path.{_≡_, refl, sym, _∙_}
 use mathlib.Core.Bool.{_&&_, and-true}
 use native.Mathlib.Omega.{arith}
 use borrow.Author.Needs.{needs}
 use borrow.Author.Tests.{not-true, not-false}
 use lib.ListN.{length, length-set}
 use Rattle.state.specs.Limits.{sendersWithin, addressAt}
-use Rattle.state.specs.LimitsLaws.{senders-more, valid-few}
-use Rattle.state.specs.private.KeyLaws.{Seen, seen-none, seen-more, new-seen}
+use Rattle.state.specs.LimitsLaws.{within-address, senders-more, valid-few}
+use Rattle.state.specs.KeyLaws.{Seen, seen-none, seen-more, new-seen}
 use Rattle.state.specs.Table.{find}
 use Rattle.state.specs.TableLaws.{find-more, look-outside, passed-outside, passed-within}
 use Rattle.state.specs.State.{sendersMost, firstWhere}
@@ -37,7 +37,7 @@ settings-within-requires c κs = search needs
 loop-holds : tie.Need-loop-holds Inv-loop μ-loop
 unfolding sendersWithin firstWhere
 loop-holds c =
-    (search needs, search needs, search needs, seen-none _ _, sym (and-true _), refl)
+    (search needs, search needs, search needs, seen-none _, sym (and-true _), refl)
 
 cast-s : tie.Need-cast-s Inv-loop μ-loop
 cast-s c = omega arith
@@ -91,7 +91,8 @@ loop-again c =
       omega arith,
       simp length-set (l .inv .2),
       seen-more (l .seen) address (l .i) _ (omega arith) (key .key .ensures) (l .inv .3),
-      senders-more (w .clock) (w .senders) (l .i) _ (first .settings-within .result) _ _ (l .inv .4) (within .within .ensures) (new-seen _ address _ _ _ (key .key .ensures) (l .inv .3) (new .fresh .ensures)),
+      senders-more (w .clock) (w .senders) (l .i) _ (first .settings-within .result) _ _ (l .inv .4) (within .within .ensures) (λ yes.
+          new-seen _ address _ _ _ (omega arith) (key .key .ensures) (l .inv .3) (within-address (w .clock) _ (sym (within .within .ensures) ∙ yes)) (new .fresh .ensures)),
       find-more (w .senders) _ (l .i) _ _ _ (l .inv .5) (c .before .same .ensures) (c .next-place .ensures),
     )
 

@@ -1,5 +1,4 @@
--- For private functions' contracts alone, no public contract cites it: an address as one number, by which two are
--- compared at once.
+-- An address as one number, by which two are compared at once.
 use Prim.Native.Nat.{ℕ, zero, suc, _+_, _*_, _<_}
 use mathlib.Core.Bool.{Bool, true, not, _&&_}
 use mathlib.Core.List.{List}
