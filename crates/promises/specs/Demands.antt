@@ -41,6 +41,7 @@ use Rattle.promised.specs.Join.{Joined}
 use Rattle.promised.specs.Log.{toldBy, Exchange, logged, deliveries, acceptedWith, openOf, lifeOf}
 use Rattle.promised.specs.Says.{sendersOf, placeOf, says, logOf}
 use Rattle.promises.specs.AsPrinted.{CuttingAsPrinted}
+use Rattle.promises.specs.Board.{BoardBegins, BoardIsCourse}
 use Rattle.promises.specs.Counted.{TalliedIsCourse, OneCounted, AllCounted}
 use Rattle.promises.specs.Course.{Meets, Course, SetupMeets, CutterMeets}
 
@@ -239,6 +240,8 @@ pub record Demands : Type 0 where
   pub tallied-is-course : TalliedIsCourse
   pub one-counted : OneCounted
   pub all-counted : AllCounted
+  pub board-begins : BoardBegins
+  pub board-is-course : BoardIsCourse
   pub every-said : EverySaid
   pub log-is : LogIs
   pub header-printed : HeaderAsPrinted

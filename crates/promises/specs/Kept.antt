@@ -5,6 +5,7 @@ use Rattle.cut.specs.Edges as edges
 use Rattle.cut.specs.PrintedLaws as cut
 use Rattle.rules.specs.pasts.ListingsLaws as listings
 use Rattle.promises.specs.AsPrintedLaws as printed
+use Rattle.promises.specs.BoardLaws as board
 use Rattle.promises.specs.ComesBackLaws as comes-back
 use Rattle.promises.specs.CountedLaws as counted
 use Rattle.promises.specs.CourseLaws as course
@@ -23,6 +24,8 @@ kept = record {
   tallied-is-course = counted.tallied-is-course;
   one-counted = counted.one-counted;
   all-counted = counted.all-counted;
+  board-begins = board.board-begins;
+  board-is-course = board.board-is-course;
   every-said = laws.every-said;
   log-is = laws.log-fixed;
   header-printed = header.header-as-printed;

@@ -3,6 +3,8 @@ pub mod AsPrinted
 pub mod AsPrintedLaws
 pub mod CourseLaws
 pub mod Counted
+pub mod Board
+pub mod BoardLaws
 pub mod CountedLaws
 pub mod Demands
 pub mod DemandsLaws

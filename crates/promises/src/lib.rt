@@ -18,6 +18,9 @@ ghost use Rattle.rules.specs.pasts.Past.{step, after, said};
 ghost use Rattle.rules.specs.calls.Question.{questionAnswer};
 ghost use Rattle.rules.specs.calls.Setup.{setupAnswer};
 ghost use Rattle.tally.specs.Tally.{counted as countedOf};
+ghost use Rattle.words.specs.Words.{wordsMost, stateIn, leftBy};
+ghost use Rattle.board.specs.Calls.{setupFor, setupWords, messageFor, storageFor, aliveFor, clockFor, questionFor};
+ghost use Rattle.promises.specs.Board.{board, BoardMeets, BoardStarts};
 ghost use Rattle.promises.specs.Course.{world, messagesOf, Leads, SetupMeets, MessageMeets, TallyMeets, PartMeets, AliveMeets, ClockMeets, QuestionMeets, CutterMeets};
 use answers::Answer;
 use answers::Missing;
@@ -26,6 +29,12 @@ use answers::Setup;
 use answers::Started;
 use answers::Ticked;
 use answers::Where;
+use board::heard::adp_alive;
+use board::message::Told;
+use board::message::adp_message;
+use board::missing::adp_question;
+use board::started::adp_setup;
+use board::ticked::adp_clock;
 use cut::cutter::Cutting;
 use header::Given;
 use state::Receiver;
@@ -102,4 +111,47 @@ pub fn cutter(given: Given, message: &[u8], u: u16, piece: u8, buffer: &mut [u8]
     ensures meets { λ r. ⌜ CutterMeets given (now (message .entry)) u piece (now (buffer .entry)) r (now (buffer .exit)) ⌝ }
 {
     cut::cutter::cutter(given, message, u, piece, buffer)
+}
+
+// ---- the calls for C
+
+pub fn board_message(state: &mut [u64], storage: &mut [u8], packet: &[u8]) -> Told
+    ensures answer { λ r. ⌜ r ≡ messageFor (now (state .entry)) (length (now (storage .entry))) (now (packet .entry)) ⌝ }
+    ensures left { λ _. ⌜ now (state .exit) ≡ leftBy (now (state .entry)) (messageAnswer (stateIn (now (state .entry))) (length (now (storage .entry))) (now (packet .entry)) .state) ⌝ }
+    ensures stored { λ _. ⌜ now (storage .exit) ≡ storageFor (now (state .entry)) (now (storage .entry)) (now (packet .entry)) ⌝ }
+    ensures meets { λ r. ⌜ BoardMeets (board (now (state .entry)) (now (storage .entry))) (past.message (now (packet .entry))) r (board (now (state .exit)) (now (storage .exit))) ⌝ }
+{
+    adp_message(state, storage, packet)
+}
+
+pub fn board_alive(state: &mut [u64], packet: &[u8]) -> u8
+    ensures answer { λ r. ⌜ r ≡ aliveFor (now (state .entry)) (now (packet .entry)) ⌝ }
+    ensures left { λ _. ⌜ now (state .exit) ≡ leftBy (now (state .entry)) (aliveAnswer (stateIn (now (state .entry))) (now (packet .entry)) .state) ⌝ }
+    ensures meets { λ r. ⌜ ((storage : List ℕ) → BoardMeets (board (now (state .entry)) storage) (past.alive (now (packet .entry))) r (board (now (state .exit)) storage)) ⌝ }
+{
+    adp_alive(state, packet)
+}
+
+pub fn board_clock(state: &mut [u64], ms: u64) -> board::ticked::Ticked
+    ensures answer { λ r. ⌜ r ≡ clockFor (now (state .entry)) ms ⌝ }
+    ensures left { λ _. ⌜ now (state .exit) ≡ leftBy (now (state .entry)) (clockAnswer (stateIn (now (state .entry))) ms .state) ⌝ }
+    ensures meets { λ r. ⌜ ((storage : List ℕ) → BoardMeets (board (now (state .entry)) storage) (past.clock ms) r (board (now (state .exit)) storage)) ⌝ }
+{
+    adp_clock(state, ms)
+}
+
+pub fn board_question(state: &[u64]) -> board::missing::Missing
+    ensures answer { λ r. ⌜ r ≡ questionFor (now (state .entry)) ⌝ }
+    ensures meets { λ r. ⌜ ((storage : List ℕ) → BoardMeets (board (now (state .entry)) storage) (past.aside past.question) r (board (now (state .entry)) storage)) ⌝ }
+{
+    adp_question(state)
+}
+
+// Of as many words as a state has.
+pub fn board_setup(state: &mut [u64], settings: Setup) -> u8
+    ensures answer { λ r. ⌜ r ≡ setupFor (now (state .entry)) settings ⌝ }
+    ensures left { λ _. ⌜ now (state .exit) ≡ setupWords (now (state .entry)) settings ⌝ }
+    ensures begins { λ r. ⌜ ((storage : List ℕ) → length (now (state .entry)) ≡ wordsMost → length storage ≡ stateIn (now (state .exit)) .count * area → BoardStarts settings (now (state .entry)) r (board (now (state .exit)) storage)) ⌝ }
+{
+    adp_setup(state, settings)
 }

@@ -1,0 +1,9 @@
+pub mod Calls
+pub mod private
+pub mod MessageLaws
+pub mod TickedLaws
+pub mod HeardLaws
+pub mod TalliedLaws
+pub mod MissingLaws
+pub mod StartedLaws
+pub mod PartLaws

@@ -1,0 +1,3 @@
+pub mod Aged
+pub mod AgedLaws
+pub mod Heard

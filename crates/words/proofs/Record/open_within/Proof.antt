@@ -1,0 +1,18 @@
+-- Only an open message is looked at. Assumes nothing.
+use mathlib.Core.Path.{_∙_}
+use borrow.Author.Tests.{eq-eqb, ne-eqb}
+use borrow.Author.Needs.{needs}
+use Rattle.words.proofs.Record.open_within.Statement.{statement}
+use Rattle.words.proofs.Record.open_within.Tie as tie
+
+message-within-requires : tie.Need-message-within-requires
+message-within-requires c κs = search needs
+
+returns : tie.Need-returns
+returns c = c .message-within .ensures ∙ rw (eq-eqb _ _ (c .before .if1 .taken))
+
+returns-2 : tie.Need-returns-2
+returns-2 c = rw (ne-eqb _ _ (c .if1 .left))
+
+pub open-within-spec : {M : Type 1} → statement M
+open-within-spec = tie.close (tie.spec message-within-requires returns returns-2)

@@ -1,0 +1,20 @@
+-- The tests are those of the definition. Assumes nothing.
+use borrow.Author.Tests.{lt-ltb, le-ltb}
+use borrow.Author.Needs.{needs}
+use Rattle.words.proofs.next_place.Statement.{statement}
+use Rattle.words.proofs.next_place.Tie as tie
+
+returns : tie.Need-returns
+returns c = rw (lt-ltb _ _ (c .if1 .taken))
+
+add-result : tie.Need-add-result
+add-result c = search needs
+
+returns-2 : tie.Need-returns-2
+returns-2 c = rw (le-ltb _ _ (c .before .if1 .left), c .if2 .taken)
+
+returns-3 : tie.Need-returns-3
+returns-3 c = rw (le-ltb _ _ (c .before .if1 .left), c .if2 .left)
+
+pub next-place-spec : {M : Type 1} → statement M
+next-place-spec = tie.close (tie.spec returns add-result returns-2 returns-3)

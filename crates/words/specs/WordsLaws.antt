@@ -1,0 +1,133 @@
+-- Laws of a state in words: what one sender's words say, and that nothing is lost by it. Assumes nothing.
+use Prim.Native.Nat.{ℕ, zero, suc, _+_, _-_, _*_, _/_, _%_, _≤_, _<_}
+use mathlib.Core.Path.{_≡_, refl, sym, ap, _∙_}
+use mathlib.Core.Logic.{⊎-elim}
+use mathlib.Core.Bool.{Bool, true, false, not, cond, _&&_, _||_}
+use mathlib.Core.List.{List, [], _∷_, _++_, append-assoc}
+use native.Mathlib.Nat.{mod-eq-of-lt, mod-lt}
+use native.Mathlib.Numerals.{unary-clauses}
+use native.Mathlib.Omega.{arith}
+use mir.Val.{boolByte}
+use lib.Dec.{eqb, leb, ltb}
+use lib.ListN.{length, set, take, drop}
+use lib.Seq.{getD-drop, sets-eq}
+use borrow.Author.Tests.{ltb-true, leb-true, le-leb, lt-leb}
+use Rattle.octets.specs.Run.{laid}
+use Rattle.octets.specs.RunLaws.{laid-fits}
+use Rattle.octets.specs.Split.{lt-or-le, true-or-false, never-both, and-left, and-right}
+use Rattle.header.specs.Codes.{isDataField, isNode}
+use Rattle.cut.specs.PossibleLaws.{several-facts, several-most}
+use Rattle.state.specs.declared.Sender.{Sender}
+use Rattle.state.specs.Limits.{isAddress, lastWithin, messageWithin, senderWithin}
+use Rattle.state.specs.State.{noMessage, noHeard}
+use Rattle.state.specs.WithinLaws.{if-so, message-facts, sender-facts}
+use Rattle.rules.specs.calls.Alike.{seen}
+use Rattle.words.specs.declared.Record.{Record}
+use Rattle.words.specs.Words.{place, each, word, recordIn, recordWords, noRecord, recordAt, half, flag, flagWord, addressIn, lastIn, messageIn, narrowed, heardShown, shown, senderOf, fits}
+
+-- ---- flags
+
+pub flag-byte : (b : Bool) → boolByte b ≡ flagWord b
+flag-byte true = refl
+flag-byte false = refl
+
+-- ---- one sender's words
+
+pub record-there : (l : List ℕ) (i : ℕ) → place i + each ≤ length l → recordAt l i ≡ recordIn (drop (place i) l)
+unfolding recordAt
+record-there l i h = rw (le-leb (place i + each) (length l) h)
+
+pub record-past : (l : List ℕ) (i : ℕ) → length l < place i + each → recordAt l i ≡ noRecord
+unfolding recordAt
+record-past l i h = rw (lt-leb (place i + each) (length l) h)
+
+-- The words where they stand.
+pub record-read : (l : List ℕ) (n : ℕ) → recordIn (drop n l) ≡ record {
+  address = word l n;
+  last = word l (n + 1);
+  «open» = word l (n + 2);
+  message = word l (n + 3);
+  cut = word l (n + 4);
+  map = word l (n + 5);
+  stamp = word l (n + 6);
+  alive = word l (n + 7);
+  heard = word l (n + 8);
+  timeout = word l (n + 9);
+}
+record-read l n = simp (getD-drop, unary-clauses)
+
+-- Ten words put down one by one are laid down.
+pub put-laid : (l : List ℕ) (at : ℕ) (r : Record) → at + each ≤ length l
+    → set (set (set (set (set (set (set (set (set (set l at (r .address)) (at + 1) (r .last)) (at + 2) (r .«open»)) (at + 3) (r .message)) (at + 4) (r .cut)) (at + 5) (r .map)) (at + 6) (r .stamp)) (at + 7) (r .alive)) (at + 8) (r .heard)) (at + 9) (r .timeout)
+    ≡ laid l at (recordWords r)
+put-laid l at r h =
+    let nine : at + 9 ≡ suc (suc (suc (suc (suc (suc (suc (suc (suc at)))))))) = omega arith in
+    simp (unary-clauses, nine)
+    (sets-eq (recordWords r) l at h ∙ append-assoc (take at l) (recordWords r) (drop (at + each) l) ∙ sym (laid-fits l at (recordWords r) h))
+
+-- ---- what 9 looks at in one sender's words
+
+and-none : (p : Bool) → p && false ≡ false
+and-none true = refl
+and-none false = refl
+
+regroup : (a b v t x y m h : Bool) → (a && b && (not v || t)) && (x && y && m && (not v || h)) ≡ (a && b) && ((x && y) && (m && (not v || (t && h))))
+regroup false b v t x y m h = refl
+regroup true false v t x y m h = refl
+regroup true true v t false y m h = and-none (not v || t)
+regroup true true v t true false m h = and-none (not v || t)
+regroup true true v t true true false h = and-none (not v || t)
+regroup true true true true true true true h = refl
+regroup true true true false true true true h = refl
+regroup true true false t true true true h = refl
+
+-- The tests in the order in which they are made.
+pub record-within : (clock : ℕ) (r : Record)
+    → fits r && senderWithin clock (senderOf r)
+    ≡ (leb (r .«open») 1 && leb (r .alive) 1)
+    && ((isAddress (addressIn (r .address)) && lastWithin (lastIn (r .last)))
+    && ((not (flag (r .«open»)) || messageWithin clock (messageIn r)) && (not (flag (r .alive)) || (ltb (r .timeout) half && leb (r .heard) clock))))
+unfolding fits senderWithin
+record-within clock r = regroup (leb (r .«open») 1) (leb (r .alive) 1) (flag (r .alive)) (ltb (r .timeout) half) (isAddress (addressIn (r .address)))
+    (lastWithin (lastIn (r .last))) (not (flag (r .«open»)) || messageWithin clock (messageIn r)) (leb (r .heard) clock)
+
+-- No message within its limits has as many pieces as an octet can't count.
+pub pieces-few : (clock : ℕ) (r : Record) → messageWithin clock (messageIn r) ≡ true → messageIn r .tbn ≤ 64
+pieces-few clock r e =
+    let m = messageIn r in
+    several-most (m .n) (m .tbn) (m .u) (several-facts (m .n) (m .tbn) (m .u) (message-facts clock m e .cut))
+
+pub narrowed-same : (r : Record) → messageIn r .tbn < 256 → narrowed r ≡ messageIn r
+narrowed-same r h = rw (mod-eq-of-lt h)
+
+-- ---- what is looked at
+
+cond-same : {A : Type 0} (b : Bool) {x y : A} (z : A) → (b ≡ true → x ≡ y) → cond b x z ≡ cond b y z
+cond-same true z e = e refl
+cond-same false z e = refl
+
+module _ (clock : ℕ) (r : Record) (within : fits r && senderWithin clock (senderOf r) ≡ true) where
+  abbrev is-within : senderWithin clock (senderOf r) ≡ true
+  is-within = and-right (fits r) (senderWithin clock (senderOf r)) within
+
+  one-octet : r .address / 65536 % 256 ≡ r .address / 65536
+  one-octet =
+      let field = r .address / 65536 in
+      let is-field = and-left (isDataField field) (isNode (r .address % 65536)) (sender-facts clock (senderOf r) is-within .address) in
+      mod-eq-of-lt (omega (arith, leb-true field 255 (and-right (leb 1 field) (leb field 255) is-field)))
+
+  message-same : cond (flag (r .«open»)) (narrowed r) noMessage ≡ cond (flag (r .«open»)) (messageIn r) noMessage
+  message-same = cond-same (flag (r .«open»)) noMessage
+      (λ yes. narrowed-same r (omega (arith, pieces-few clock r (sender-facts clock (senderOf r) is-within .message yes))))
+
+  heard-same : heardShown r ≡ cond (flag (r .alive)) (senderOf r .heard) noHeard
+  unfolding fits
+  heard-same = cond-same (flag (r .alive)) noHeard
+      (λ yes.
+      let narrow = if-so (flag (r .alive)) (ltb (r .timeout) half) (and-right (leb (r .«open») 1 && leb (r .alive) 1) _ (and-left (fits r) (senderWithin clock (senderOf r)) within)) yes in
+      rw (mod-eq-of-lt (ltb-true (r .timeout) half narrow)))
+
+  -- Nothing that is looked at is lost where the words fit.
+  pub shown-seen : shown r ≡ seen (senderOf r)
+  unfolding shown seen
+  shown-seen = rw (one-octet, message-same, heard-same)

@@ -1,0 +1,20 @@
+// Where each word stands: the table of specs/Words.antt, for the code.
+
+pub const TEST: usize = 0;
+
+pub const N1: usize = 1;
+
+pub const T: usize = 2;
+
+pub const CLOCK: usize = 3;
+
+pub const COUNT: usize = 4;
+
+// where the first sender's words begin
+pub const SENDERS: usize = 5;
+
+// how many words each sender has
+pub const EACH: usize = 10;
+
+// how many words a state has
+pub const WORDS: usize = 165;
