@@ -1,6 +1,6 @@
-/* Prepares a night's packets, and has one side run through them:   harness NIGHT ours|twin|none|both ROUNDS
- * `none` only prepares, so that its count can be taken off. `both` compares what the two sides answered and wrote, and fails where they
- * differ. It prints how many packets ROUNDS rounds have, and their octets.   harness list   prints the nights. */
+/* Prepares a night's packets, and has one side run through them:   harness NIGHT value|board|twin|none|all ROUNDS
+ * `none` only prepares, so that its count can be taken off. `all` compares what the sides answered and wrote, and fails
+ * where they differ. It prints how many packets ROUNDS rounds have.   harness list   prints the nights. */
 #include "twin.h"
 
 #include <stdbool.h>
@@ -9,14 +9,14 @@
 #include <string.h>
 
 enum { V_SEQ = 16, SEQ = 20, NODE = 10, TCD = 40, MODE = 52, CBN = 56, BSIZE = 58, FUI = 60 };
-enum { MODE_ONLINE = 0, N1 = 8, T = 1000, MOST_ROUNDS = 4096 };
+enum { MODE_ONLINE = 0, N1 = 8, T = 1000, MOST_ROUNDS = 4096, SIDES = 3 };
 
 /* the packets of a night, one behind the other */
 static uint8_t *packets;
 static uint16_t *sizes;
 static size_t octets, count;
 static uint8_t content[AREA], pdus[65][LONGEST];
-static uint8_t ours_storage[PLACES * AREA], twin_storage[PLACES * AREA];
+static uint8_t storages[SIDES][PLACES * AREA];
 
 struct night {
     const char *name;
@@ -115,7 +115,8 @@ static unsigned chance(unsigned below) {
     return (seed >> 16) % below;
 }
 
-/* Packets of which most are refused for one reason or another: pieces in any order, and now and then a header octet or the length changed. */
+/* Packets of which most are refused for one reason or another: pieces in any order, and now and then a header octet or
+ * the length changed. */
 static void mixed_round(const struct night *k, unsigned round) {
     for (unsigned i = 0; i < 16; i++) {
         uint8_t *packet = put(k, 1 + chance(k->senders), 1 + round / 2 + chance(3), 1 + chance(pieces(k)));
@@ -143,7 +144,18 @@ static void prepare(const struct night *k, unsigned rounds) {
     }
 }
 
-/* ---- the two sides */
+/* ---- the sides */
+
+/* The first of them is the one whose answers and octets are held against what a night must come to. */
+static const struct side {
+    const char *name;
+    night_call *night;
+    cuts_call *cuts;
+} sides[SIDES] = {
+    {"value", adp_night, adp_cuts},
+    {"board", board_night, board_cuts},
+    {"twin", twin_night, twin_cuts},
+};
 
 static uint64_t run_night(const struct night *k, night_call *call, uint8_t *storage) {
     size_t room = (size_t)k->senders * AREA - (k->number == 11);
@@ -152,43 +164,82 @@ static uint64_t run_night(const struct night *k, night_call *call, uint8_t *stor
 
 static uint64_t run_cuts(const struct night *k, cuts_call *call, uint8_t *buffer, unsigned rounds) {
     uint64_t sum = 0;
-    for (unsigned round = 0; round < rounds; round++) sum += call(round + 1, content, k->n, k->u, (uint8_t)pieces(k), buffer, LONGEST);
+    for (unsigned round = 0; round < rounds; round++)
+        sum += call(round + 1, content, k->n, k->u, (uint8_t)pieces(k), buffer, LONGEST);
     return sum;
 }
 
-static uint64_t run(const struct night *k, bool ours, uint8_t *storage, unsigned rounds) {
-    if (k->kind == CUT) return run_cuts(k, ours ? adp_cuts : twin_cuts, storage, rounds);
-    return run_night(k, ours ? adp_night : twin_night, storage);
+static uint64_t run(const struct night *k, unsigned side, unsigned rounds) {
+    if (k->kind == CUT) return run_cuts(k, sides[side].cuts, storages[side], rounds);
+    return run_night(k, sides[side].night, storages[side]);
+}
+
+/* Whether each side's octets are the first's. */
+static bool wrote_alike(void) {
+    for (unsigned side = 1; side < SIDES; side++)
+        if (memcmp(storages[side], storages[0], sizeof storages[0]) != 0) return false;
+    return true;
 }
 
 /* Each piece by itself: the last call of a round alone would show only the last one. */
 static void compare_cuts(const struct night *k) {
     for (unsigned c = 0; c <= pieces(k) + 1; c++) {
-        uint64_t a = adp_cuts(c + 1, content, k->n, k->u, (uint8_t)c, ours_storage, LONGEST);
-        uint64_t b = twin_cuts(c + 1, content, k->n, k->u, (uint8_t)c, twin_storage, LONGEST);
-        if (a != b || memcmp(ours_storage, twin_storage, sizeof ours_storage) != 0) fail("the two sides cut differently", k->name);
+        uint64_t sums[SIDES];
+        for (unsigned side = 0; side < SIDES; side++) {
+            sums[side] = sides[side].cuts(c + 1, content, k->n, k->u, (uint8_t)c, storages[side], LONGEST);
+            if (sums[side] != sums[0]) fail("the sides cut differently", k->name);
+        }
+        if (!wrote_alike()) fail("the sides cut differently", k->name);
     }
 }
 
-/* What a night must come to besides: that both sides refuse all is no comparison. */
+/* Whether each sender's area has the message that was sent. */
+static bool joined_right(const struct night *k) {
+    for (unsigned i = 0; i < k->senders; i++)
+        if (memcmp(storages[0] + (size_t)i * AREA, content, k->n) != 0) return false;
+    return true;
+}
+
+/* What a night must come to besides: that all sides refuse all is no comparison. */
 static void expect(const struct night *k, uint64_t sum, unsigned rounds) {
     uint64_t join = 0, t = pieces(k);
     for (uint64_t held = 1; held < t; held++) join += held * 256;
-    if (k->kind == JOIN && sum != k->senders * (rounds * (join + k->n) + 1 + (rounds - 1) * 2ull)) fail("not every message was joined", k->name);
-    if (k->kind == JOIN && t > 1)
-        for (unsigned i = 0; i < k->senders; i++)
-            if (memcmp(ours_storage + (size_t)i * AREA, content, k->n) != 0) fail("a message was joined wrongly", k->name);
-    if (k->kind == REFUSED && k->number < 17 && sum != (uint64_t)k->number * rounds) fail("not every packet was refused with its number", k->name);
-    if (k->kind == REFUSED && k->number == 17 && sum != 17ull * rounds + 1 + k->n) fail("not every repeat was refused", k->name);
-    if (k->kind == REFUSED && k->number > 17 && sum != (uint64_t)k->number * rounds + 256) fail("not every packet was refused with its number", k->name);
+    if (k->kind == JOIN && sum != k->senders * (rounds * (join + k->n) + 1 + (rounds - 1) * 2ull))
+        fail("not every message was joined", k->name);
+    if (k->kind == JOIN && t > 1 && !joined_right(k)) fail("a message was joined wrongly", k->name);
+    if (k->kind == REFUSED && k->number < 17 && sum != (uint64_t)k->number * rounds)
+        fail("not every packet was refused with its number", k->name);
+    if (k->kind == REFUSED && k->number == 17 && sum != 17ull * rounds + 1 + k->n)
+        fail("not every repeat was refused", k->name);
+    if (k->kind == REFUSED && k->number > 17 && sum != (uint64_t)k->number * rounds + 256)
+        fail("not every packet was refused with its number", k->name);
 }
 
 static void compare(const struct night *k, unsigned rounds) {
-    uint64_t a = run(k, true, ours_storage, rounds), b = run(k, false, twin_storage, rounds);
-    if (a != b) fail("the two sides answer differently", k->name);
-    if (memcmp(ours_storage, twin_storage, sizeof ours_storage) != 0) fail("the two sides write differently", k->name);
-    expect(k, a, rounds);
+    uint64_t first = run(k, 0, rounds);
+    for (unsigned side = 1; side < SIDES; side++)
+        if (run(k, side, rounds) != first) fail("the sides answer differently", k->name);
+    if (!wrote_alike()) fail("the sides write differently", k->name);
+    expect(k, first, rounds);
     if (k->kind == CUT) compare_cuts(k);
+}
+
+/* Has the side of this name run the night, all of them, or none. */
+static void run_named(const struct night *k, const char *name, unsigned rounds) {
+    /* volatile: so that the night is run though nothing more is made of its sum */
+    volatile uint64_t sum = 0;
+    if (strcmp(name, "none") == 0) return;
+    if (strcmp(name, "all") == 0) {
+        compare(k, rounds);
+        return;
+    }
+    for (unsigned side = 0; side < SIDES; side++)
+        if (strcmp(name, sides[side].name) == 0) {
+            sum = run(k, side, rounds);
+            (void)sum;
+            return;
+        }
+    fail("no such side", name);
 }
 
 int main(int argc, char **argv) {
@@ -197,20 +248,13 @@ int main(int argc, char **argv) {
         for (size_t i = 0; i < all; i++) printf("%zu\t%s\n", i, nights[i].name);
         return 0;
     }
-    if (argc != 4) fail("NIGHT ours|twin|none|both ROUNDS are needed", argv[0]);
+    if (argc != 4) fail("NIGHT value|board|twin|none|all ROUNDS are needed", argv[0]);
     size_t which = strtoul(argv[1], NULL, 10);
     unsigned rounds = (unsigned)strtoul(argv[3], NULL, 10);
     if (which >= all || rounds < 1 || rounds > MOST_ROUNDS) fail("no such night, or too many rounds", argv[1]);
     const struct night *k = &nights[which];
     prepare(k, rounds);
-    /* volatile: so that the night is run though nothing more is made of its sum */
-    volatile uint64_t sum = 0;
-    if (strcmp(argv[2], "ours") == 0) sum = run(k, true, ours_storage, rounds);
-    if (strcmp(argv[2], "twin") == 0) sum = run(k, false, twin_storage, rounds);
-    if (strcmp(argv[2], "both") == 0) compare(k, rounds);
-    size_t each = k->kind == CUT ? (size_t)pieces(k) * rounds : count;
-    size_t in_all = k->kind == CUT ? each * HEADER + (size_t)k->n * rounds : octets;
-    printf("%zu %zu\n", each, in_all);
-    (void)sum;
+    run_named(k, argv[2], rounds);
+    printf("%zu\n", k->kind == CUT ? (size_t)pieces(k) * rounds : count);
     return 0;
 }

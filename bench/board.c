@@ -1,0 +1,41 @@
+/* The nights through the calls of include/adp.h, as a board makes them: the state is words of the caller's, and each
+ * packet and each piece is one call into the archive, which is linked, not compiled in. It takes and answers what the
+ * other two sides do, and assumes as they do that the packets lie one behind the other. */
+#include "twin.h"
+
+#include "adp.h"
+
+/* Setup, for the nodes 1 to `senders` of data field 1. A refused one leaves the empty state, as on the other sides. */
+static void begin(uint64_t *state, uint8_t mode, uint16_t n1, uint32_t t, uint8_t senders) {
+    struct adp_settings settings = {mode, n1, t, senders, {{0, 0}}};
+    for (unsigned i = 0; i < ADP_SENDERS; i++) {
+        settings.senders[i].field = 1;
+        settings.senders[i].node = (uint16_t)(i + 1);
+    }
+    adp_setup(state, ADP_STATE_WORDS, settings);
+}
+
+uint64_t board_night(uint8_t mode, uint16_t n1, uint32_t t, uint8_t senders, const uint8_t *packets, size_t octets,
+                     const uint16_t *sizes, size_t count, uint8_t *storage, size_t room) {
+    uint64_t state[ADP_STATE_WORDS], sum = 0;
+    size_t at = 0;
+    begin(state, mode, n1, t, senders);
+    for (size_t i = 0; i < count; i++) {
+        size_t size = sizes[i] < octets - at ? sizes[i] : octets - at;
+        struct adp_answer a = adp_message(state, ADP_STATE_WORDS, storage, room, packets + at, size);
+        sum += (a.number > ADP_DELIVERED ? a.number : a.verdict) + a.held * 256ull + a.length;
+        at += size;
+    }
+    return sum;
+}
+
+uint64_t board_cuts(uint32_t number, const uint8_t *message, size_t n, uint16_t u, uint8_t last, uint8_t *buffer,
+                    size_t room) {
+    struct adp_given given = {.field = 1, .node = 1, .version = 1, .number = number, .tcd = 1};
+    uint64_t sum = 0;
+    for (unsigned c = 1; c <= last; c++) {
+        struct adp_cutting cutting = adp_cut(given, message, n, u, (uint8_t)c, buffer, room);
+        sum += (uint64_t)cutting.number + cutting.length;
+    }
+    return sum;
+}

@@ -1,0 +1,147 @@
+/* The receiver and the cutter of ADP R3.0 for a board whose sockets are C; C99 or C++. board/build makes the archive to
+ * link, target/staticlib/libboard.a; it needs memcpy from the C library and nothing else. Numbers and words are those
+ * of docs/PROMISES.md.
+ *
+ * The library has no globals, no heap and no threads: a call reads and writes only what is lent to it, and keeps
+ * nothing of it. Calls on different states may run at the same time; calls on one state must not.
+ *
+ * What the caller sees to:
+ * - What is lent to one call must not overlap. A pointer may be NULL where its length is 0.
+ * - Between calls the caller leaves a state, and the storage that goes with it, as the last call left them.
+ * - A delivered message is not copied out. Its octets stay where they are until the next call on that state; where they
+ *   lie in the packet, until the packet's memory is used again. */
+#ifndef ADP_H
+#define ADP_H
+
+#include <stdbool.h>
+#include <stddef.h>
+#include <stdint.h>
+
+#ifdef __cplusplus
+extern "C" {
+#endif
+
+enum {
+    ADP_STATE_WORDS = 165, /* words of 64 bits that a state has */
+    ADP_SENDERS = 16,      /* the most senders */
+    ADP_AREA = 16384,      /* octets of storage for each sender, and the most octets of a message */
+    ADP_HEADER = 64,       /* octets before a piece in its PDU */
+    ADP_LONGEST = 1460,    /* the most octets of a message's PDU */
+    ADP_LONGEST_ALIVE = 1472,
+    ADP_LEAST_UNIT = 256, /* the least and the most octets of a piece but the last */
+    ADP_MOST_UNIT = 1396
+};
+
+/* What a call answers. A refusal, 9 or more, changes nothing that was lent; but see adp_setup, and the tally. */
+enum {
+    ADP_DONE = 0,         /* stored, done or written */
+    ADP_DELIVERED = 1,    /* a message is complete, and handed over */
+    ADP_BAD_STATE = 9,    /* the words are no state, or one outside its limits: was adp_setup called? */
+    ADP_BAD_SETUP = 10,   /* settings outside their limits, or not ADP_STATE_WORDS words */
+    ADP_BAD_STORAGE = 11, /* not ADP_AREA octets for each sender */
+    ADP_BAD_LENGTH = 12,  /* a PDU too short, too long, or of another length than its BSIZE */
+    ADP_BAD_HEADER = 13,  /* a fixed field, PRI, MODE, the code or SEQ out of range */
+    ADP_UNKNOWN = 14,     /* sender not registered */
+    ADP_TEST_MODE = 15,   /* a test message at an online node */
+    ADP_BAD_CUT = 16,     /* no message can be cut so */
+    ADP_REPEAT = 17,      /* delivered before */
+    ADP_OLDER = 18,       /* the open message has the same version and a larger number */
+    ADP_UNLIKE = 19,      /* same version and number as the open message, another code, length or cut */
+    ADP_HELD = 20,        /* the piece is held already; whether its octets are the same is not compared */
+    ADP_BAD_CLOCK = 21,   /* the clock goes back, or above its limit of 1,099,511,627,776 ms */
+    ADP_BAD_ALIVE = 22,   /* an alive signal whose ML, CBN, TBN, group or body is wrong */
+    ADP_BAD_PIECE = 23    /* cutter: length, unit, piece number or a header value outside limits, or the buffer short */
+};
+
+/* What the number check says of a delivered message. */
+enum { ADP_FIRST = 1, ADP_NEXT = 2, ADP_RESTART = 3, ADP_GAP = 4, ADP_UNCHECKED = 5 };
+
+/* Which of the lent octets hold a delivered message. */
+enum { ADP_IN_NOTHING = 0, ADP_IN_PACKET = 1, ADP_IN_STORAGE = 2 };
+
+/* A sender: data field 1 to 255, node 1 to 4,095. */
+struct adp_address {
+    uint8_t field;
+    uint16_t node;
+};
+
+struct adp_settings {
+    uint8_t mode;  /* 0 online, 1 test */
+    uint16_t n1;   /* 1 to 1,024: how far back a number is a repeat */
+    uint32_t t;    /* 1 to 600,000: the age in ms at which an open message is dropped */
+    uint8_t count; /* 1 to 16 senders, no pair twice; places past the count are not looked at */
+    struct adp_address senders[ADP_SENDERS];
+};
+
+/* In this answer and the three below it, what says nothing is 0: on a refusal all but the number; slice, start and
+ * length where nothing is delivered, skipped without a gap, sender and piece where nothing is open. */
+struct adp_answer {
+    uint8_t number;
+    uint8_t verdict;  /* of a delivery */
+    uint8_t held;     /* pieces then held for the PDU's sender, 0 after a delivery; a refusal leaves what is held */
+    uint8_t slice;    /* of a delivery: where its `length` octets lie, from `start` on */
+    uint32_t skipped; /* with ADP_GAP: how many numbers */
+    uint32_t dropped_version, dropped_number; /* the message dropped to make room; a number of 0: none was */
+    size_t start, length;
+};
+
+struct adp_ticked {
+    uint8_t number;
+    uint16_t dropped; /* whose open message was dropped, the first sender lowest */
+    uint16_t dead;    /* who was alive and is not any more */
+};
+
+struct adp_missing {
+    uint8_t number;
+    bool open;      /* whether a message is open */
+    uint8_t sender; /* the first sender that has one, by its place in the settings, from 0 */
+    uint8_t piece;  /* its lowest missing piece, from 1 */
+};
+
+struct adp_cutting {
+    uint8_t number;
+    uint16_t length; /* of the PDU */
+};
+
+/* The values of 5.1 that are the same for every piece of a message. */
+struct adp_given {
+    uint8_t field;
+    uint16_t node;
+    uint32_t da, version, number, m_ctl;
+    uint16_t tcd, mode;
+    uint8_t pri;
+};
+
+/* Makes ADP_STATE_WORDS words, whatever they hold, a state: nobody heard, nothing open, the clock at 0. Settings
+ * outside their limits: ADP_BAD_SETUP, and the words are then the empty state, which has no senders and refuses every
+ * PDU. Another number of words: ADP_BAD_SETUP, and they stay. */
+uint8_t adp_setup(uint64_t *state, size_t words, struct adp_settings settings);
+
+/* Takes a message's PDU. `storage` has ADP_AREA octets for each sender; behind setup they may hold anything. */
+struct adp_answer adp_message(uint64_t *state, size_t words, uint8_t *storage, size_t room, const uint8_t *packet,
+                              size_t size);
+
+/* The same, and counts its answer: tally[0] those of 0 and 1, tally[1] refusals, each stopping at 4,294,967,295. */
+struct adp_answer adp_message_tallied(uint64_t *state, size_t words, uint8_t *storage, size_t room,
+                                      const uint8_t *packet, size_t size, uint32_t *tally);
+
+/* Takes an alive signal's PDU. ADP_DONE says that it was taken, not that its sender is alive: by al_mode 1 the sender
+ * is alive, by 2 and 3 it is dead. */
+uint8_t adp_alive(uint64_t *state, size_t words, const uint8_t *packet, size_t size);
+
+/* Moves the time, which no other call does, in ms since setup: drops each open message without a new piece for T ms,
+ * and calls dead each alive sender without a signal for its al_tm_out, in seconds. */
+struct adp_ticked adp_clock(uint64_t *state, size_t words, uint64_t ms);
+
+/* Which piece is missing? */
+struct adp_missing adp_question(const uint64_t *state, size_t words);
+
+/* Writes the PDU of one piece, from 1, of a message cut into pieces of `u` octets. Octets behind the PDU stay. */
+struct adp_cutting adp_cut(struct adp_given given, const uint8_t *message, size_t length, uint16_t u, uint8_t piece,
+                           uint8_t *buffer, size_t room);
+
+#ifdef __cplusplus
+}
+#endif
+
+#endif
