@@ -7,3 +7,4 @@ pub mod TalliedLaws
 pub mod MissingLaws
 pub mod StartedLaws
 pub mod PartLaws
+pub mod ToldLaws
