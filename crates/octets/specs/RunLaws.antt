@@ -137,6 +137,11 @@ module _ (s : List ℕ) (at : ℕ) (p : List ℕ) (fits : at + length p ≤ leng
       (ap (λ (x : ℕ). drop x (laid s at p)) e ∙ sym (drop-drop more (at + length p) (laid s at p))
       ∙ ap (drop more) (laid-drop s at p fits) ∙ drop-drop more (at + length p) s ∙ ap (λ (x : ℕ). drop x s) (sym e))
 
+-- What has a run laid down at place 0 begins with it.
+pub laid-first : (s p t : List ℕ) → length p ≤ length s → t ≡ laid s 0 p → take (length p) t ≡ p
+unfolding run
+laid-first s p t fits e = rw e (run-laid s 0 p (omega arith))
+
 -- A run of a run.
 pub run-run : (at n b k : ℕ) (s : List ℕ) → b + k ≤ n → at + n ≤ length s → run b k (run at n s) ≡ run (at + b) k s
 unfolding run

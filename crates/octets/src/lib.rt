@@ -9,6 +9,9 @@ ghost use lib.ListN.{length, drop};
 ghost use Rattle.octets.specs.Number.{number, octets};
 ghost use Rattle.octets.specs.Run.{run as runOf, laid};
 
+// The longest run that is moved at once. What a network's packet carries is shorter.
+const PART: usize = 2_048;
+
 // ---- reading
 
 pub fn read1(s: &[u8], at: usize) -> u8
@@ -65,12 +68,29 @@ pub fn lay(s: &mut [u8], at: usize, run: &[u8])
 {
     if run.len() <= s.len() {
         if at <= s.len() - run.len() {
-            copy(s, at, run);
+            move_over(s, at, run);
         }
     }
 }
 
-// The count is a variable, which compiles to moves of 16 octets.
+// Lays down a run that ends within the slice. The compiler does not know that run and slice lie apart, so it leaves a
+// copy from one to the other a loop. A local array lies apart from both: through it a short run is copied twice, and
+// both copies compile to one memmove, with no array left.
+fn move_over(s: &mut [u8], at: usize, run: &[u8])
+    requires { ⌜ at + length (now run) ≤ length (now s) ⌝ }
+    ensures { λ _. ⌜ now (s .exit) ≡ laid (now (s .entry)) at (now (run .entry)) ⌝ }
+{
+    let n = run.len();
+    if n <= PART {
+        let mut part = [0u8; PART];
+        copy(&mut part, 0, run);
+        copy(s, at, &part[..n]);
+    } else {
+        copy(s, at, run);
+    }
+}
+
+// The count is a variable, which compiles to moves of 16 octets where it stays a loop.
 fn copy(s: &mut [u8], at: usize, run: &[u8])
     requires { ⌜ at + length (now run) ≤ length (now s) ⌝ }
     ensures { λ _. ⌜ now (s .exit) ≡ laid (now (s .entry)) at (now (run .entry)) ⌝ }

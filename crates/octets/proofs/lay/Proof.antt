@@ -10,8 +10,8 @@ use Rattle.octets.proofs.lay.Tie as tie
 sub-if2 : tie.Need-sub-if2
 sub-if2 c = search needs
 
-copy-requires : tie.Need-copy-requires
-copy-requires c κs = search needs
+move-over-requires : tie.Need-move-over-requires
+move-over-requires c κs = search needs
 
 same-length : tie.Need-same-length
 same-length c = search needs
@@ -26,4 +26,4 @@ returns-3 : tie.Need-returns-3
 returns-3 c = let a = c .before .before .before .args in sym (laid-past (now (a .s)) (a .at) (now (a .run)) (omega arith))
 
 pub lay-spec : {M : Type 1} → statement M
-lay-spec = tie.close (tie.spec sub-if2 copy-requires same-length returns returns-2 returns-3)
+lay-spec = tie.close (tie.spec sub-if2 move-over-requires same-length returns returns-2 returns-3)
