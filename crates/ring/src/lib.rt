@@ -4,7 +4,7 @@
 // Every function is total: a number outside 1 to M is taken modulo M.
 ghost use mathlib.Core.Path.{_≡_};
 ghost use mathlib.Core.Bool.{cond};
-ghost use Prim.Native.Nat.{_-_, _<_};
+ghost use Prim.Native.Nat.{_-_, _%_, _<_};
 ghost use lib.Dec.{eqb, ltb};
 ghost use Rattle.ring.specs.declared.Verdict.the-variants.{Repeat, Next, Gap};
 ghost use Rattle.ring.specs.Ring.{M as last, back as backOf, newer as isNewer, isNumber};
@@ -44,7 +44,16 @@ impl Number {
 pub fn back(r: Number, s: Number) -> u32
     ensures { λ d. ⌜ d ≡ backOf r s ⌝ }
 {
-    (r.0 % M + (M - s.0 % M)) % M
+    let a = on_ring(r.0);
+    let b = on_ring(s.0);
+    if b <= a { a - b } else { a + (M - b) }
+}
+
+// Modulo M. What is below M, as nearly every number is, is not divided.
+fn on_ring(x: u32) -> u32
+    ensures { λ d. ⌜ d ≡ x % last ⌝ }
+{
+    if x < M { x } else { x % M }
 }
 
 // Whether a is newer than b.
