@@ -26,10 +26,10 @@ use Rattle.rules.specs.calls.Setup.{setupAnswer}
 use Rattle.tally.specs.declared.Tally.{Tally}
 use Rattle.tally.specs.Tally.{stopping}
 use Rattle.words.specs.Words.{wordsMost, word, isState, stateIn, wordsOf}
-use Rattle.board.specs.declared.cutting.Cutting.{Cutting}
-use Rattle.board.specs.declared.message.Told.{Told}
-use Rattle.board.specs.declared.missing.Missing.{Missing}
-use Rattle.board.specs.declared.ticked.Ticked.{Ticked}
+use Rattle.board.specs.declared.Cutting.{Cutting}
+use Rattle.board.specs.declared.Told.{Told}
+use Rattle.board.specs.declared.Missing.{Missing}
+use Rattle.board.specs.declared.Ticked.{Ticked}
 
 -- ---- setup
 

@@ -1,10 +1,5 @@
 pub mod Calls
-pub mod private
-pub mod MessageLaws
-pub mod TickedLaws
-pub mod HeardLaws
-pub mod TalliedLaws
-pub mod MissingLaws
-pub mod StartedLaws
 pub mod PartLaws
+pub mod TalliedLaws
 pub mod ToldLaws
+pub mod SetupLaws

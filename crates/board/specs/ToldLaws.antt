@@ -2,23 +2,14 @@
 -- Assumes nothing.
 use Prim.Native.Nat.{ℕ}
 use mathlib.Core.Path.{_≡_, refl}
-use mathlib.Core.Logic.{_≢_}
-use mathlib.Core.Bool.{false}
-use mathlib.Core.List.{List}
-use lib.ListN.{length}
-use borrow.Author.Tests.{ne-eqb}
 use Rattle.answers.specs.declared.Answer.{Answer}
 use Rattle.answers.specs.declared.Missing as by-value-missing
-use Rattle.answers.specs.declared.Setup.{Setup}
 use Rattle.answers.specs.declared.Ticked as by-value
-use Rattle.answers.specs.Told.{WhereTold, whereTold, MessageTold, messageTold, callNumber, ClockTold, clockTold, QuestionTold, questionTold}
-use Rattle.rules.specs.calls.ExactlyLaws.{setup-refuses}
-use Rattle.rules.specs.calls.Setup.{setupWithin, setupAnswer}
-use Rattle.words.specs.Words.{wordsMost}
-use Rattle.board.specs.declared.message.Told.{Told}
-use Rattle.board.specs.declared.missing.Missing.{Missing}
-use Rattle.board.specs.declared.ticked.Ticked.{Ticked}
-use Rattle.board.specs.Calls.{setupFor, toldOf, tickedOf, missingOf}
+use Rattle.answers.specs.Told.{WhereTold, whereTold, MessageTold, messageTold, ClockTold, clockTold, QuestionTold, questionTold}
+use Rattle.board.specs.declared.Told.{Told}
+use Rattle.board.specs.declared.Missing.{Missing}
+use Rattle.board.specs.declared.Ticked.{Ticked}
+use Rattle.board.specs.Calls.{toldOf, tickedOf, missingOf}
 
 -- ---- the message call
 
@@ -50,10 +41,3 @@ questionBack t = record { number = t .number; «open» = t .«open»; sender = t
 
 pub question-same : (a : by-value-missing.Missing) → questionBack (missingOf a) ≡ questionTold a
 question-same a = refl
-
--- ---- setup
-
--- Another number of words than a state has is refused as any setup outside its limits is.
-pub setup-outside : (l : List ℕ) (q bad : Setup) → length l ≢ wordsMost → setupWithin bad ≡ false → setupFor l q ≡ callNumber (setupAnswer bad .call)
-unfolding setupFor
-setup-outside l q bad many e = rw (ne-eqb (length l) wordsMost many, setup-refuses bad e)

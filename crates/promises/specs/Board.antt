@@ -15,9 +15,9 @@ use Rattle.rules.specs.calls.Message.{area, messageAnswer}
 use Rattle.rules.specs.calls.Setup.{setupAnswer}
 use Rattle.rules.specs.pasts.Past.{World, Event, message, alive, clock, aside, question, Said, Answers}
 use Rattle.words.specs.Words.{wordsMost, isState, stateIn, leftBy}
-use Rattle.board.specs.declared.message.Told.{Told}
-use Rattle.board.specs.declared.missing.Missing.{Missing}
-use Rattle.board.specs.declared.ticked.Ticked.{Ticked}
+use Rattle.board.specs.declared.Told.{Told}
+use Rattle.board.specs.declared.Missing.{Missing}
+use Rattle.board.specs.declared.Ticked.{Ticked}
 use Rattle.board.specs.Calls.{setupFor, setupWords, toldOf, messageFor, storageFor, aliveFor, tickedOf, clockFor, missingOf, questionFor}
 use Rattle.promises.specs.Course.{world, SetupMeets, Meets, Course}
 

@@ -12,10 +12,10 @@ use Rattle.rules.specs.calls.Setup.{setupAnswer}
 use Rattle.words.specs.Words.{wordsMost, isState, stateIn, leftBy, wordsOf}
 use Rattle.words.specs.WrittenLaws.{Means}
 use Rattle.board.specs.Calls.{setupFor, setupWords, messageFor, storageFor, aliveFor, clockFor, questionFor}
-use Rattle.board.specs.MessageLaws.{message-means}
-use Rattle.board.specs.HeardLaws.{alive-means}
-use Rattle.board.specs.TickedLaws.{clock-means}
-use Rattle.board.specs.StartedLaws.{setup-means}
+use Rattle.board_message.specs.MessageLaws.{message-means}
+use Rattle.board_alive.specs.HeardLaws.{alive-means}
+use Rattle.board_clock.specs.TickedLaws.{clock-means}
+use Rattle.board_setup.specs.StartedLaws.{setup-means}
 use Rattle.promises.specs.Board.{Board, worldOf, InNumbers, BoardMeets, BoardStarts, AllInNumbers, BoardCourse, numbersOf, allNumbers, BoardBegins, BoardIsCourse}
 use Rattle.promises.specs.Course.{world, Meets, Course}
 use Rattle.promises.specs.CourseLaws.{same-world, a-call}

@@ -29,12 +29,12 @@ use answers::Setup;
 use answers::Started;
 use answers::Ticked;
 use answers::Where;
-use board::heard::adp_alive;
-use board::message::Told;
-use board::message::adp_message;
-use board::missing::adp_question;
-use board::started::adp_setup;
-use board::ticked::adp_clock;
+use board::Told;
+use board_alive::adp_alive;
+use board_clock::adp_clock;
+use board_message::adp_message;
+use board_question::adp_question;
+use board_setup::adp_setup;
 use cut::cutter::Cutting;
 use header::Given;
 use state::Receiver;
@@ -132,7 +132,7 @@ pub fn board_alive(state: &mut [u64], packet: &[u8]) -> u8
     adp_alive(state, packet)
 }
 
-pub fn board_clock(state: &mut [u64], ms: u64) -> board::ticked::Ticked
+pub fn board_clock(state: &mut [u64], ms: u64) -> board::Ticked
     ensures answer { λ r. ⌜ r ≡ clockFor (now (state .entry)) ms ⌝ }
     ensures left { λ _. ⌜ now (state .exit) ≡ leftBy (now (state .entry)) (clockAnswer (stateIn (now (state .entry))) ms .state) ⌝ }
     ensures meets { λ r. ⌜ ((storage : List ℕ) → BoardMeets (board (now (state .entry)) storage) (past.clock ms) r (board (now (state .exit)) storage)) ⌝ }
@@ -140,7 +140,7 @@ pub fn board_clock(state: &mut [u64], ms: u64) -> board::ticked::Ticked
     adp_clock(state, ms)
 }
 
-pub fn board_question(state: &[u64]) -> board::missing::Missing
+pub fn board_question(state: &[u64]) -> board::Missing
     ensures answer { λ r. ⌜ r ≡ questionFor (now (state .entry)) ⌝ }
     ensures meets { λ r. ⌜ ((storage : List ℕ) → BoardMeets (board (now (state .entry)) storage) (past.aside past.question) r (board (now (state .entry)) storage)) ⌝ }
 {

@@ -1,3 +1,0 @@
-pub mod Aged
-pub mod AgedLaws
-pub mod Heard

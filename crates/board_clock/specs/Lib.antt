@@ -1,0 +1,2 @@
+pub mod private
+pub mod TickedLaws

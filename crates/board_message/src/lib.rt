@@ -1,0 +1,131 @@
+// The message call on a state in lent words: one sender's words are loaded, handed to `sender`, and put back.
+ghost use mathlib.Core.Path.{_≡_};
+ghost use lib.ListN.{length};
+ghost use Rattle.answers.specs.declared.Where.the-variants.{Packet};
+ghost use Rattle.answers.specs.Told.{whereTold};
+ghost use Rattle.rules.specs.calls.Message.{messageAnswer};
+ghost use Rattle.words.specs.Words.{stateIn, leftBy};
+ghost use Rattle.board.specs.Calls.{partStart, partLength, inNumbers, refusedWith, messageFor, storageFor};
+use answers::Dropped;
+use answers::Outcome;
+use answers::Where;
+use board::Told;
+use header::SIZE;
+use header::read_head;
+use receiver::message::packet_number;
+use receiver::message::store;
+use receiver::message::where_to;
+use sender::admit;
+use state::Address;
+use words::places;
+
+#[no_mangle]
+pub extern "C" fn adp_message(state: &mut [u64], storage: &mut [u8], packet: &[u8]) -> Told
+    ensures answer { λ r. ⌜ r ≡ messageFor (now (state .entry)) (length (now (storage .entry))) (now (packet .entry)) ⌝ }
+    ensures left { λ _. ⌜ now (state .exit) ≡ leftBy (now (state .entry)) (messageAnswer (stateIn (now (state .entry))) (length (now (storage .entry))) (now (packet .entry)) .state) ⌝ }
+    ensures stored { λ _. ⌜ now (storage .exit) ≡ storageFor (now (state .entry)) (now (storage .entry)) (now (packet .entry)) ⌝ }
+{
+    let h = read_head(packet);
+    let look = words::look(state, Address::of(h));
+    let at = look.at;
+    let count = (words::at(state, places::COUNT) % 256) as u8;
+    let early = packet_number(look.valid, count, at, storage.len(), packet, h);
+    if early != 0 {
+        return refused(early);
+    }
+    let r = words::load(state, at);
+    let test = words::at(state, places::TEST) == 1;
+    let n1 = (words::at(state, places::N1) % 65_536) as u16;
+    let clock = words::at(state, places::CLOCK);
+    let a = admit(r.sender(), test, n1, clock, h);
+    let outcome = a.outcome;
+    let late = outcome.refusal();
+    if late != 0 {
+        return refused(late);
+    }
+    let next = a.sender;
+    words::put(state, at, r.joined(next));
+    store(storage, at, h, packet);
+    let dropped = a.dropped;
+    in_numbers(
+        outcome,
+        a.held,
+        dropped,
+        where_to(outcome, at, h),
+        packet.len(),
+    )
+}
+
+// "nothing more"
+fn refused(number: u8) -> Told
+    ensures { λ r. ⌜ r ≡ refusedWith number ⌝ }
+{
+    Told {
+        number,
+        verdict: 0,
+        held: 0,
+        slice: 0,
+        skipped: 0,
+        dropped_version: 0,
+        dropped_number: 0,
+        start: 0,
+        length: 0,
+    }
+}
+
+// An answer in numbers, of a packet of so many octets.
+fn in_numbers(outcome: Outcome, held: u8, dropped: Dropped, lies: Where, size: usize) -> Told
+    ensures { λ r. ⌜ r ≡ inNumbers outcome held dropped lies size ⌝ }
+{
+    Told {
+        number: outcome.number(),
+        verdict: outcome.verdict(),
+        held,
+        slice: slice_of(lies),
+        skipped: outcome.skipped(),
+        dropped_version: dropped.version.0,
+        dropped_number: dropped.number.0,
+        start: start_of(lies),
+        length: length_of(lies, size),
+    }
+}
+
+fn slice_of(lies: Where) -> u8
+    ensures { λ r. ⌜ r ≡ whereTold lies .slice ⌝ }
+{
+    match lies {
+        Where::Nothing => 0,
+        Where::Packet => 1,
+        Where::Storage {
+            start: _,
+            length: _,
+        } => 2,
+    }
+}
+
+fn start_of(lies: Where) -> usize
+    ensures { λ r. ⌜ r ≡ partStart lies ⌝ }
+{
+    match lies {
+        Where::Nothing => 0,
+        Where::Packet => SIZE,
+        Where::Storage { start, length: _ } => start,
+    }
+}
+
+fn length_of(lies: Where, size: usize) -> usize
+    ensures { λ r. ⌜ r ≡ partLength lies size ⌝ }
+{
+    match lies {
+        Where::Nothing => 0,
+        Where::Packet => behind(size),
+        Where::Storage { start: _, length } => length,
+    }
+}
+
+// How many octets stand behind the header.
+fn behind(size: usize) -> usize
+    ensures { λ r. ⌜ r ≡ partLength Packet size ⌝ }
+{
+    if SIZE <= size { size - SIZE } else { 0 }
+}

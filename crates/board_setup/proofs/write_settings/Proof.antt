@@ -1,0 +1,60 @@
+-- Five words put down one by one. Assumes nothing.
+use native.Mathlib.Omega.{arith}
+use denote.Ref.{now}
+use lib.ListN.{length-set}
+use Rattle.words.specs.WordsLaws.{flag-byte}
+use Rattle.board_setup.specs.StartedLaws.{settings-set}
+use borrow.Author.Needs.{needs}
+use Rattle.board_setup.proofs.write_settings.Statement.{statement}
+use Rattle.board_setup.proofs.write_settings.Tie as tie
+
+cast-words : tie.Need-cast-words
+cast-words c = search needs
+
+slice-write-words : tie.Need-slice-write-words
+slice-write-words c = search needs
+
+cast-words-2 : tie.Need-cast-words-2
+cast-words-2 c = search needs
+
+slice-write-words-2 : tie.Need-slice-write-words-2
+slice-write-words-2 c = search needs
+
+cast-words-3 : tie.Need-cast-words-3
+cast-words-3 c = search needs
+
+slice-write-words-3 : tie.Need-slice-write-words-3
+slice-write-words-3 c = search needs
+
+slice-write-words-4 : tie.Need-slice-write-words-4
+slice-write-words-4 c = search needs
+
+cast-words-4 : tie.Need-cast-words-4
+cast-words-4 c = search needs
+
+slice-write-words-5 : tie.Need-slice-write-words-5
+slice-write-words-5 c = simp length-set (omega arith)
+
+same-length : tie.Need-same-length
+same-length c = search needs
+
+returns : tie.Need-returns
+returns c =
+    let a = c .before .before .before .before .args in
+    rw (flag-byte (a .state .test)) (settings-set (now (a .words)) _ _ _ _ _ (omega arith))
+
+pub write-settings-spec : {M : Type 1} → statement M
+write-settings-spec =
+    tie.close
+    (tie.spec
+    cast-words
+    slice-write-words
+    cast-words-2
+    slice-write-words-2
+    cast-words-3
+    slice-write-words-3
+    slice-write-words-4
+    cast-words-4
+    slice-write-words-5
+    same-length
+    returns)
