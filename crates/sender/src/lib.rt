@@ -3,10 +3,12 @@
 //
 // Every public function is total: the record need not be within its limits.
 ghost use mathlib.Core.Path.{_≡_};
-ghost use mathlib.Core.Bool.{true};
+ghost use mathlib.Core.Bool.{true, not, _&&_};
 ghost use mathlib.Core.List.{[], _∷_};
+ghost use Rattle.ring.specs.Ring.{newer as isNewer};
 ghost use Rattle.cut.specs.Possible.{possible as isPossible};
-ghost use Rattle.rules.specs.calls.Admit.{rejoins as isRejoining, sameCut, senderRows, mapAfter, droppedBy, lastBy, closed, messageOf, opened as isOpened, admitted, admission, verdictOf};
+ghost use Rattle.map.specs.Map.{holds as holdsOf};
+ghost use Rattle.rules.specs.calls.Admit.{rejoins as isRejoining, sameCut, senderRows, sameVersion, mapAfter, droppedBy, lastBy, closed, messageOf, opened as isOpened, admitted, admission, verdictOf};
 ghost use Rattle.rules.specs.calls.First.{row, first};
 use answers::Admission;
 use answers::Dropped;
@@ -50,38 +52,38 @@ fn refusal(s: Sender, test: bool, n1: u16, h: Head) -> u8
 {
     let given = h.given;
     let cut = h.cut;
-    let m = s.message;
-    let same_version = s.open & (m.version.0 == given.version.0);
-    let again = rejoins(s, h);
-    first_of(
-        (given.mode == 1) & !test,
-        !possible(cut),
-        verdict(s, n1, h).is_repeat(),
-        same_version & newer(m.number, given.number),
-        again & !same_cut(m, h),
-        again & holds(m.map, cut.cbn),
-    )
-}
-
-fn first_of(a: bool, b: bool, c: bool, d: bool, e: bool, f: bool) -> u8
-    ensures { λ r. ⌜ r ≡ first (row 15 a ∷ row 16 b ∷ row 17 c ∷ row 18 d ∷ row 19 e ∷ row 20 f ∷ []) ⌝ }
-{
-    if a {
+    if (given.mode == 1) & !test {
         return 15;
     }
-    if b {
+    if !possible(cut) {
         return 16;
     }
-    if c {
+    if verdict(s, n1, h).is_repeat() {
         return 17;
     }
-    if d {
+    open_number(s, h)
+}
+
+// The first of 18 to 20 that applies, or 0: only a message that is open, of the PDU's version, is looked at.
+fn open_number(s: Sender, h: Head) -> u8
+    ensures { λ r. ⌜ r ≡ first (row 18 (s .«open» && sameVersion s h && isNewer (s .message .number) (h .given .number)) ∷ row 19 (isRejoining s h && not (sameCut (s .message) h)) ∷ row 20 (isRejoining s h && holdsOf (s .message .map) (h .cut .cbn)) ∷ []) ⌝ }
+{
+    let m = s.message;
+    let given = h.given;
+    let cut = h.cut;
+    if !(s.open & (m.version.0 == given.version.0)) {
+        return 0;
+    }
+    if newer(m.number, given.number) {
         return 18;
     }
-    if e {
+    if m.number.0 != given.number.0 {
+        return 0;
+    }
+    if !same_cut(m, h) {
         return 19;
     }
-    if f { 20 } else { 0 }
+    if holds(m.map, cut.cbn) { 20 } else { 0 }
 }
 
 // What the number check says.
