@@ -28,9 +28,11 @@ use Rattle.rules.specs.calls.First.{first}
 use Rattle.rules.specs.calls.FirstLaws.{first-here}
 use Rattle.rules.specs.calls.Message.{withSender}
 use Rattle.words.specs.declared.Record.{Record}
-use Rattle.words.specs.Words.{place, word, half, recordWords, recordAt, senderOf, fits, heardAs, isState, stateIn, leftBy, lookIn}
-use Rattle.words.specs.LookLaws.{Held, state-facts}
-use Rattle.words.specs.HeldLaws.{look-in, look-out, look-so, count-octet, place-few, sender-here, own-fits}
+use Rattle.words.specs.Words.{place, word, half, recordWords, recordAt, senderOf, fits, heardAs, isState, stateIn, leftBy}
+use Rattle.words.specs.StateLaws.{state-facts}
+use Rattle.words_look.specs.Look.{lookIn}
+use Rattle.words_look.specs.LookLaws.{Held}
+use Rattle.words_look.specs.HeldLaws.{look-in, look-out, look-so, count-octet, place-few, sender-here, own-fits}
 use Rattle.words.specs.WrittenLaws.{left-same, put-written, put-state, put-is-state, Means, means-same, means-by}
 use Rattle.words.specs.ChangedLaws.{heard-there, heard-fits}
 use Rattle.board.specs.Calls.{aliveFor}

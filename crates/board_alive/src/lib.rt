@@ -20,7 +20,7 @@ pub extern "C" fn adp_alive(state: &mut [u64], packet: &[u8]) -> u8
 {
     let h = read_head(packet);
     let body = read_body(packet);
-    let look = words::look(state, Address::of(h));
+    let look = words_look::look(state, Address::of(h));
     let at = look.at;
     let count = (words::at(state, places::COUNT) % 256) as u8;
     let number = signal_number(look.valid, count, at, packet, h, body);

@@ -24,9 +24,11 @@ use Rattle.rules.specs.calls.Clock as clock
 use Rattle.rules.specs.calls.ClockLaws.{map-below, clock-nine, clock-back, clock-on, map-again, state-more}
 use Rattle.rules.specs.calls.Message.{withSender}
 use Rattle.words.specs.declared.Record.{Record}
-use Rattle.words.specs.Words.{place, word, recordWords, recordAt, addressIn, senderOf, fits, sendersIn, isState, stateIn, leftBy, lookIn}
-use Rattle.words.specs.LookLaws.{Held, IsState, state-facts, look-tells, sender-in, fit-each}
+use Rattle.words.specs.Words.{place, word, recordWords, recordAt, addressIn, senderOf, fits, sendersIn, isState, stateIn, leftBy}
+use Rattle.words.specs.StateLaws.{IsState, state-facts, sender-in, fit-each}
 use Rattle.words.specs.WrittenLaws.{Means, means-same, means-by, left-same, left-is, clock-is-state, clock-state, clock-beyond, put-state, put-is-state, put-beyond}
+use Rattle.words_look.specs.Look.{lookIn}
+use Rattle.words_look.specs.LookLaws.{Held, look-tells}
 use Rattle.board.specs.declared.Ticked.{Ticked}
 use Rattle.board.specs.Calls.{notTicked, tickedOf, clockFor}
 use Rattle.board_clock.specs.private.Aged.{agedBy}

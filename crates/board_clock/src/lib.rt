@@ -20,7 +20,7 @@ pub extern "C" fn adp_clock(state: &mut [u64], ms: u64) -> Ticked
     ensures answer { λ r. ⌜ r ≡ clockFor (now (state .entry)) ms ⌝ }
     ensures left { λ _. ⌜ now (state .exit) ≡ leftBy (now (state .entry)) (clockAnswer (stateIn (now (state .entry))) ms .state) ⌝ }
 {
-    if !words::within(state) {
+    if !words_look::within(state) {
         return refused(9);
     }
     if (ms < words::at(state, places::CLOCK)) | (Receiver::CLOCK_MOST < ms) {

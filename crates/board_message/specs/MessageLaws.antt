@@ -38,9 +38,11 @@ use Rattle.rules.specs.calls.Message.{headWithin, packetRows, messageAnswer, me
 use Rattle.rules.specs.calls.MessageLaws.{Passed, passed-facts, Answered, pass-refused, pass-late, pass-admitted, pass-taken}
 use Rattle.rules.specs.calls.SeenLaws.{looks-rows, looks-outcome, looks-held, looks-dropped, changes-after}
 use Rattle.words.specs.declared.Record.{Record}
-use Rattle.words.specs.Words.{place, word, recordWords, recordAt, senderOf, shown, joinedBy, fits, isState, stateIn, written, leftBy, outside, lookIn}
-use Rattle.words.specs.LookLaws.{Held, state-facts}
-use Rattle.words.specs.HeldLaws.{look-in, look-out, look-so, count-octet, n1-octets, place-few, sender-here, sender-ok, own-fits, loaded-seen}
+use Rattle.words.specs.Words.{place, word, recordWords, recordAt, senderOf, shown, joinedBy, fits, isState, stateIn, written, leftBy}
+use Rattle.words.specs.StateLaws.{state-facts}
+use Rattle.words_look.specs.Look.{outside, lookIn}
+use Rattle.words_look.specs.LookLaws.{Held}
+use Rattle.words_look.specs.HeldLaws.{look-in, look-out, look-so, count-octet, n1-octets, place-few, sender-here, sender-ok, own-fits, loaded-seen}
 use Rattle.words.specs.WrittenLaws.{left-same, put-written, put-state, put-is-state, Means, means-same, means-by}
 use Rattle.words.specs.ChangedLaws.{closed-there, opened-there, joined-fits}
 use Rattle.board.specs.declared.Told.{Told}

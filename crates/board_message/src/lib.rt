@@ -26,7 +26,7 @@ pub extern "C" fn adp_message(state: &mut [u64], storage: &mut [u8], packet: &[u
     ensures stored { λ _. ⌜ now (storage .exit) ≡ storageFor (now (state .entry)) (now (storage .entry)) (now (packet .entry)) ⌝ }
 {
     let h = read_head(packet);
-    let look = words::look(state, Address::of(h));
+    let look = words_look::look(state, Address::of(h));
     let at = look.at;
     let count = (words::at(state, places::COUNT) % 256) as u8;
     let early = packet_number(look.valid, count, at, storage.len(), packet, h);

@@ -19,9 +19,10 @@ use Rattle.rules.specs.calls.First.{first}
 use Rattle.rules.specs.calls.Question.{questionAnswer}
 use Rattle.rules.specs.calls.QuestionLaws.{first-of, question-none, question-nine}
 use Rattle.words.specs.declared.Record.{Record}
-use Rattle.words.specs.Words.{word, recordAt, addressIn, flag, senderOf, sendersIn, isState, stateIn, lookIn}
-use Rattle.words.specs.LookLaws.{Held, look-tells}
-use Rattle.words.specs.HeldLaws.{sender-here}
+use Rattle.words.specs.Words.{word, recordAt, addressIn, flag, senderOf, sendersIn, isState, stateIn}
+use Rattle.words_look.specs.Look.{lookIn}
+use Rattle.words_look.specs.LookLaws.{Held, look-tells}
+use Rattle.words_look.specs.HeldLaws.{sender-here}
 use Rattle.board.specs.declared.Missing.{Missing}
 use Rattle.board.specs.Calls.{noneMissing, missingOf, questionFor}
 

@@ -9,7 +9,7 @@ use words::places;
 pub extern "C" fn adp_question(state: &[u64]) -> Missing
     ensures { λ r. ⌜ r ≡ questionFor (now (state .entry)) ⌝ }
 {
-    if !words::within(state) {
+    if !words_look::within(state) {
         return none_open(9);
     }
     let count = (words::at(state, places::COUNT) % 256) as u8;

@@ -26,9 +26,9 @@ use Rattle.answers.specs.declared.Started.{Started}
 use Rattle.rules.specs.calls.Setup.{setupWithin, newSenders, setupState, setupAnswer}
 use Rattle.words.specs.declared.Record.{Record}
 use Rattle.words.specs.Words.{before, each, place, wordsMost, recordIn, recordWords, recordAt, flagWord, senderOf, recordOf, fits, sendersIn, stateIn, fitTo, isState, senderWords, settingsWords, front, wordsOf}
-use Rattle.words.specs.WordsLaws.{record-there}
+use Rattle.words.specs.WordsLaws.{address-back, record-there}
 use Rattle.words.specs.ListedLaws.{listed-same}
-use Rattle.words.specs.LookLaws.{address-back, state-of}
+use Rattle.words.specs.StateLaws.{state-of}
 use Rattle.words.specs.ChangedLaws.{flag-there}
 
 -- The settings.

@@ -1,7 +1,6 @@
 pub mod Words
 pub mod WordsLaws
 pub mod ListedLaws
-pub mod LookLaws
-pub mod HeldLaws
+pub mod StateLaws
 pub mod WrittenLaws
 pub mod ChangedLaws

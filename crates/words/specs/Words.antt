@@ -8,13 +8,10 @@ use lib.ListN.{length, getD, take, drop}
 use Rattle.state.specs.declared.Address.{Address}
 use Rattle.state.specs.declared.Heard.{Heard}
 use Rattle.state.specs.declared.Last.{Last}
-use Rattle.state.specs.declared.Look.{Look}
 use Rattle.state.specs.declared.Message.{Message}
 use Rattle.state.specs.declared.Receiver.{Receiver}
 use Rattle.state.specs.declared.Sender.{Sender}
-use Rattle.state.specs.Limits.{settingsWithin}
 use Rattle.state.specs.State.{sendersMost, noMessage, noHeard, senderAt, Settings, stateOf}
-use Rattle.state.specs.Table.{lookAt}
 use Rattle.words.specs.declared.Record.{Record}
 
 -- ---- the table
@@ -209,10 +206,6 @@ sendersIn l = listed (λ i. senderOf (recordAt l i)) sendersMost
 abbrev pub stateIn : List ℕ → Receiver
 stateIn l = stateOf (settingsIn l) (word l 3) (sendersIn l)
 
--- The test flag and the settings within their limits.
-unfoldable pub settingsFit : List ℕ → Bool
-settingsFit l = leb (word l 0) 1 && settingsWithin (stateIn l)
-
 -- Words that are a state's: as many as it has, no more senders than there are places, and none that no field can hold.
 -- "places past the senders are … never looked at".
 unfoldable pub fitTo : List ℕ → ℕ → Bool
@@ -247,12 +240,3 @@ written l w = front w (w .count) ++ drop (place (w .count)) l
 -- What a call leaves, if it leaves the state w; words that are no state stay.
 unfoldable pub leftBy : List ℕ → Receiver → List ℕ
 leftBy l w = cond (isState l) (written l w) l
-
--- ---- one pass
-
-abbrev pub outside : Look
-outside = record { valid = false; at = 0 }
-
--- What one pass over the words finds: number 9 for words that are no state, and for a state outside its limits.
-unfoldable pub lookIn : List ℕ → Address → Look
-lookIn l a = cond (isState l) (lookAt (stateIn l) a) outside

@@ -8,7 +8,7 @@ use native.Mathlib.Nat.{mod-eq-of-lt, mod-lt}
 use native.Mathlib.Numerals.{unary-clauses}
 use native.Mathlib.Omega.{arith}
 use mir.Val.{boolByte}
-use lib.Dec.{eqb, leb, ltb}
+use lib.Dec.{leb, ltb}
 use lib.ListN.{length, set, take, drop}
 use lib.Seq.{getD-drop, sets-eq}
 use borrow.Author.Tests.{ltb-true, leb-true, le-leb, lt-leb}
@@ -17,19 +17,31 @@ use Rattle.octets.specs.RunLaws.{laid-fits}
 use Rattle.octets.specs.Split.{lt-or-le, true-or-false, never-both, and-left, and-right}
 use Rattle.header.specs.Codes.{isDataField, isNode}
 use Rattle.cut.specs.PossibleLaws.{several-facts, several-most}
-use Rattle.state.specs.declared.Sender.{Sender}
-use Rattle.state.specs.Limits.{isAddress, lastWithin, messageWithin, senderWithin}
+use Rattle.state.specs.declared.Address.{Address}
+use Rattle.state.specs.Key.{Narrow}
+use Rattle.state.specs.Limits.{messageWithin, senderWithin}
 use Rattle.state.specs.State.{noMessage, noHeard}
 use Rattle.state.specs.WithinLaws.{if-so, message-facts, sender-facts}
 use Rattle.rules.specs.calls.Alike.{seen}
 use Rattle.words.specs.declared.Record.{Record}
-use Rattle.words.specs.Words.{place, each, word, recordIn, recordWords, noRecord, recordAt, half, flag, flagWord, addressIn, lastIn, messageIn, narrowed, heardShown, shown, senderOf, fits}
+use Rattle.words.specs.Words.{place, each, word, recordIn, recordWords, noRecord, recordAt, half, flag, flagWord, addressIn, addressWord, messageIn, narrowed, heardShown, shown, senderOf, fits}
 
 -- ---- flags
 
 pub flag-byte : (b : Bool) → boolByte b ≡ flagWord b
 flag-byte true = refl
 flag-byte false = refl
+
+-- ---- addresses
+
+-- The word of an address says it.
+pub address-back : (a : Address) → Narrow a → addressIn (addressWord a) ≡ a
+address-back a h =
+    let n = a .node .0 in
+    let f = a .field .0 in
+    let hi : (f * 65536 + n) / 65536 ≡ f = omega arith in
+    let lo : (f * 65536 + n) % 65536 ≡ n = omega arith in
+    rw (hi, lo)
 
 -- ---- one sender's words
 
@@ -65,31 +77,7 @@ put-laid l at r h =
     simp (unary-clauses, nine)
     (sets-eq (recordWords r) l at h ∙ append-assoc (take at l) (recordWords r) (drop (at + each) l) ∙ sym (laid-fits l at (recordWords r) h))
 
--- ---- what 9 looks at in one sender's words
-
-and-none : (p : Bool) → p && false ≡ false
-and-none true = refl
-and-none false = refl
-
-regroup : (a b v t x y m h : Bool) → (a && b && (not v || t)) && (x && y && m && (not v || h)) ≡ (a && b) && ((x && y) && (m && (not v || (t && h))))
-regroup false b v t x y m h = refl
-regroup true false v t x y m h = refl
-regroup true true v t false y m h = and-none (not v || t)
-regroup true true v t true false m h = and-none (not v || t)
-regroup true true v t true true false h = and-none (not v || t)
-regroup true true true true true true true h = refl
-regroup true true true false true true true h = refl
-regroup true true false t true true true h = refl
-
--- The tests in the order in which they are made.
-pub record-within : (clock : ℕ) (r : Record)
-    → fits r && senderWithin clock (senderOf r)
-    ≡ (leb (r .«open») 1 && leb (r .alive) 1)
-    && ((isAddress (addressIn (r .address)) && lastWithin (lastIn (r .last)))
-    && ((not (flag (r .«open»)) || messageWithin clock (messageIn r)) && (not (flag (r .alive)) || (ltb (r .timeout) half && leb (r .heard) clock))))
-unfolding fits senderWithin
-record-within clock r = regroup (leb (r .«open») 1) (leb (r .alive) 1) (flag (r .alive)) (ltb (r .timeout) half) (isAddress (addressIn (r .address)))
-    (lastWithin (lastIn (r .last))) (not (flag (r .«open»)) || messageWithin clock (messageIn r)) (leb (r .heard) clock)
+-- ---- what is looked at
 
 -- No message within its limits has as many pieces as an octet can't count.
 pub pieces-few : (clock : ℕ) (r : Record) → messageWithin clock (messageIn r) ≡ true → messageIn r .tbn ≤ 64
@@ -99,8 +87,6 @@ pieces-few clock r e =
 
 pub narrowed-same : (r : Record) → messageIn r .tbn < 256 → narrowed r ≡ messageIn r
 narrowed-same r h = rw (mod-eq-of-lt h)
-
--- ---- what is looked at
 
 cond-same : {A : Type 0} (b : Bool) {x y : A} (z : A) → (b ≡ true → x ≡ y) → cond b x z ≡ cond b y z
 cond-same true z e = e refl

@@ -23,7 +23,7 @@ use Rattle.words.specs.declared.Record.{Record}
 use Rattle.words.specs.Words.{before, each, place, wordsMost, word, recordIn, recordWords, recordAt, half, flag, flagWord, senderOf, recordOf, fits, listed, sendersIn, stateIn, fitTo, isState, senderWords, settingsWords, front, written, leftBy}
 use Rattle.words.specs.WordsLaws.{record-there, record-read}
 use Rattle.words.specs.ListedLaws.{length-listed, listed-at, listed-same, listed-set}
-use Rattle.words.specs.LookLaws.{sender-in, fit-each, IsState, state-facts, state-of}
+use Rattle.words.specs.StateLaws.{sender-in, fit-each, IsState, state-facts, state-of}
 
 -- ---- one sender's words, there and back
 

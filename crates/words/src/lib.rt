@@ -3,36 +3,29 @@
 // covers.
 //
 // Every function is total: it takes any words, as many as there are. Which words are a state, and which state they are,
-// is said in specs/Words.antt; the limits are the state's own.
+// is said in specs/Words.antt.
 ghost use mathlib.Core.Path.{_≡_};
-ghost use mathlib.Core.Bool.{not, cond, _&&_, _||_};
-ghost use Prim.Native.Nat.{_+_, _<_};
-ghost use lib.Dec.{leb, ltb};
+ghost use mathlib.Core.Bool.{cond};
 ghost use lib.ListN.{set as setAt};
 ghost use Rattle.octets.specs.Run.{laid};
-ghost use Rattle.state.specs.Limits.{isAddress, lastWithin, messageWithin, senderWithin};
-ghost use Rattle.state.specs.State.{sendersMost, noMessage};
-ghost use Rattle.words.specs.Words.{place, word, half, flag, heardShown, recordAt, recordWords, addressIn, lastIn, messageIn, narrowed, shown, senderOf, recordOf, joinedBy, heardAs, fits, settingsFit, lookIn, pair as pairOf, cutWord};
+ghost use Rattle.state.specs.State.{noMessage};
+ghost use Rattle.words.specs.Words.{place, word, flag, heardShown, recordAt, recordWords, narrowed, shown, recordOf, joinedBy, heardAs, pair as pairOf, cutWord};
 use header::codes::DataField;
 use header::codes::Node;
-use ring::M;
 use ring::Number;
 use ring::Version;
 use state::Address;
 use state::Heard;
 use state::Last;
-use state::Look;
 use state::Message;
-use state::Receiver;
 use state::Sender;
-use state::fresh;
 
 pub mod places;
 
 // Four octets, and two.
-const HALF: u64 = 4_294_967_296;
+pub const HALF: u64 = 4_294_967_296;
 
-const QUARTER: u64 = 65_536;
+pub const QUARTER: u64 = 65_536;
 
 // ---- one word
 
@@ -135,55 +128,8 @@ impl Record {
         timeout: 0,
     };
 
-    // Whether no word holds what its field can't, and the sender is within its limits.
-    pub fn within(self, clock: u64) -> bool
-        ensures { λ r. ⌜ r ≡ (fits self && senderWithin clock (senderOf self)) ⌝ }
-    {
-        if !((self.open <= 1) & (self.alive <= 1)) {
-            return false;
-        }
-        if !(address_within(self.address) & last_within(self.last)) {
-            return false;
-        }
-        if !self.open_within(clock) {
-            return false;
-        }
-        self.alive_within(clock)
-    }
-
-    // Only an open message is looked at.
-    fn open_within(self, clock: u64) -> bool
-        ensures { λ r. ⌜ r ≡ (not (flag (self .«open»)) || messageWithin clock (messageIn self)) ⌝ }
-    {
-        if self.open == 1 {
-            return self.message_within(clock);
-        }
-        true
-    }
-
-    // Only of an alive sender it is looked at when it was heard.
-    fn alive_within(self, clock: u64) -> bool
-        ensures { λ r. ⌜ r ≡ (not (flag (self .alive)) || (ltb (self .timeout) half && leb (self .heard) clock)) ⌝ }
-    {
-        if self.alive == 1 {
-            return (self.timeout < HALF) & (self.heard <= clock);
-        }
-        true
-    }
-
-    fn message_within(self, clock: u64) -> bool
-        ensures { λ r. ⌜ r ≡ messageWithin clock (messageIn self) ⌝ }
-    {
-        // no message has so many pieces
-        if 255 < self.cut % QUARTER {
-            return false;
-        }
-        let m = self.message_of();
-        m.within(clock)
-    }
-
     // The open message.
-    fn message_of(self) -> Message
+    pub fn message_of(self) -> Message
         ensures { λ r. ⌜ r ≡ narrowed self ⌝ }
     {
         let version = Version((self.message / HALF) as u32);
@@ -282,22 +228,6 @@ impl Record {
     }
 }
 
-fn address_within(w: u64) -> bool
-    ensures { λ r. ⌜ r ≡ isAddress (addressIn w) ⌝ }
-{
-    let field = w / QUARTER;
-    let node = w % QUARTER;
-    (1 <= field) & (field <= 255) & ((1 <= node) & (node <= 4_095))
-}
-
-fn last_within(w: u64) -> bool
-    ensures { λ r. ⌜ r ≡ lastWithin (lastIn w) ⌝ }
-{
-    let version = w / HALF;
-    let number = w % HALF;
-    (number <= (M as u64)) & ((version == 0) | (0 < number))
-}
-
 fn pair(version: Version, number: Number) -> u64
     ensures { λ r. ⌜ r ≡ pairOf (version .0) (number .0) ⌝ }
 {
@@ -308,75 +238,4 @@ fn cut_of(m: Message) -> u64
     ensures { λ r. ⌜ r ≡ cutWord m ⌝ }
 {
     m.tcd as u64 * (HALF * QUARTER) + m.n as u64 * HALF + m.u as u64 * QUARTER + m.tbn as u64
-}
-
-// ---- one pass
-
-// Number 9: whether the words are a state within its limits.
-pub fn within(words: &[u64]) -> bool
-    ensures { λ r. ⌜ r ≡ lookIn (now (words .entry)) (addressIn 0) .valid ⌝ }
-{
-    let look = look(words, Address::NONE);
-    look.valid
-}
-
-// The same, and at which place the sender with this address stands; the count if none has it.
-pub fn look(words: &[u64], a: Address) -> Look
-    ensures { λ r. ⌜ r ≡ lookIn (now (words .entry)) a ⌝ }
-{
-    if words.len() != places::WORDS {
-        return Look::OUTSIDE;
-    }
-    if !settings_within(words) {
-        return Look::OUTSIDE;
-    }
-    let count = (at(words, places::COUNT) % 256) as u8;
-    let clock = at(words, places::CLOCK);
-    let wanted = a.field.0 as u64 * QUARTER + a.node.0 as u64;
-    let mut seen = [0u32; Receiver::PLACES];
-    let mut found: u8 = 0;
-    let mut i: u8 = 0;
-    while i < count {
-        let r = load(words, i);
-        if !r.within(clock) {
-            return Look::OUTSIDE;
-        }
-        let key = (r.address % HALF) as u32;
-        if !fresh(&seen, key) {
-            return Look::OUTSIDE;
-        }
-        seen[i as usize] = key;
-        found = next_place(found, i, r.address == wanted);
-        i += 1;
-    }
-    Look {
-        valid: true,
-        at: found,
-    }
-}
-
-// The place that was found, once the sender at place i was looked at too.
-fn next_place(found: u8, i: u8, here: bool) -> u8
-    requires { ⌜ i < sendersMost ⌝ }
-    ensures { λ r. ⌜ r ≡ cond (ltb found i) found (cond here i (i + 1)) ⌝ }
-{
-    if found < i {
-        return found;
-    }
-    if here { i } else { i + 1 }
-}
-
-fn settings_within(words: &[u64]) -> bool
-    ensures { λ r. ⌜ r ≡ settingsFit (now (words .entry)) ⌝ }
-{
-    let test = at(words, places::TEST);
-    let n1 = at(words, places::N1);
-    let t = at(words, places::T);
-    let count = at(words, places::COUNT);
-    (test <= 1)
-        & (at(words, places::CLOCK) <= Receiver::CLOCK_MOST)
-        & (count <= 16)
-        & ((1 <= n1) & (n1 <= 1_024))
-        & ((1 <= t) & (t <= 600_000))
-        & ((0 < count) | ((test != 1) & (n1 == 1) & (t == 1)))
 }

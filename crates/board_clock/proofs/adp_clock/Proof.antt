@@ -9,7 +9,8 @@ use borrow.Author.Needs.{needs}
 use borrow.Author.Tests.{not-true, not-false}
 use Rattle.state.specs.State.{sendersMost}
 use Rattle.words.specs.Words.{word}
-use Rattle.words.specs.LookLaws.{Held, held-by, state-facts}
+use Rattle.words.specs.StateLaws.{state-facts}
+use Rattle.words_look.specs.LookLaws.{Held, held-by}
 use Rattle.board_clock.specs.TickedLaws.{met-nine, met-back, Aging, aging-none, aging-more, met-on, map-short}
 use Rattle.board_clock.proofs.adp_clock.Statement.{statement}
 use Rattle.board_clock.proofs.adp_clock.Tie as tie

@@ -7,8 +7,8 @@ use borrow.Author.Needs.{needs}
 use borrow.Author.Tests.{not-true, not-false}
 use Rattle.map.specs.MapLaws.{lowest-most}
 use Rattle.words.specs.Words.{word}
-use Rattle.words.specs.LookLaws.{Held, held-by}
-use Rattle.words.specs.HeldLaws.{count-octet}
+use Rattle.words_look.specs.LookLaws.{Held, held-by}
+use Rattle.words_look.specs.HeldLaws.{count-octet}
 use Rattle.board_question.specs.MissingLaws.{NoneTo, met-nine, none-more, met-piece, met-none}
 use Rattle.board_question.proofs.adp_question.Statement.{statement}
 use Rattle.board_question.proofs.adp_question.Tie as tie

@@ -1,7 +1,7 @@
 -- Only of an alive sender it is looked at. Assumes nothing.
 use borrow.Author.Tests.{eq-eqb, ne-eqb}
-use Rattle.words.proofs.Record.alive_within.Statement.{statement}
-use Rattle.words.proofs.Record.alive_within.Tie as tie
+use Rattle.words_look.proofs.alive_within.Statement.{statement}
+use Rattle.words_look.proofs.alive_within.Tie as tie
 
 returns : tie.Need-returns
 returns c = rw (eq-eqb _ _ (c .before .before .if1 .taken))

@@ -2,8 +2,8 @@
 use mathlib.Core.Path.{_∙_}
 use borrow.Author.Tests.{eq-eqb, ne-eqb}
 use borrow.Author.Needs.{needs}
-use Rattle.words.proofs.Record.open_within.Statement.{statement}
-use Rattle.words.proofs.Record.open_within.Tie as tie
+use Rattle.words_look.proofs.open_within.Statement.{statement}
+use Rattle.words_look.proofs.open_within.Tie as tie
 
 message-within-requires : tie.Need-message-within-requires
 message-within-requires c κs = search needs

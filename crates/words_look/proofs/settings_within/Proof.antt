@@ -1,10 +1,10 @@
 -- The tests are those of the definition. Assumes nothing.
 use mathlib.Core.Bool.{and-assoc}
 use Rattle.state.specs.Limits.{settingsOf}
-use Rattle.words.specs.Words.{settingsFit}
+use Rattle.words_look.specs.Look.{settingsFit}
 use borrow.Author.Needs.{needs}
-use Rattle.words.proofs.settings_within.Statement.{statement}
-use Rattle.words.proofs.settings_within.Tie as tie
+use Rattle.words_look.proofs.settings_within.Statement.{statement}
+use Rattle.words_look.proofs.settings_within.Tie as tie
 
 at-requires : tie.Need-at-requires
 at-requires c κs = search needs

@@ -5,9 +5,9 @@ use native.Mathlib.Omega.{arith}
 use denote.Ref.{now}
 use borrow.Author.Needs.{needs}
 use borrow.Author.Tests.{not-true, not-false}
-use Rattle.words.specs.LookLaws.{outside-length, outside-settings, Looked, looked-none, looked-outside, looked-twice, looked-more, looked-all}
-use Rattle.words.proofs.look.Statement.{statement}
-use Rattle.words.proofs.look.Tie as tie
+use Rattle.words_look.specs.LookLaws.{outside-length, outside-settings, Looked, looked-none, looked-outside, looked-twice, looked-more, looked-all}
+use Rattle.words_look.proofs.look.Statement.{statement}
+use Rattle.words_look.proofs.look.Tie as tie
 
 abbrev Inv-loop : tie.InvT-loop
 Inv-loop words count clock wanted seen₀ found₀ i₀ seen found i = Looked words count clock wanted seen found i
@@ -59,13 +59,13 @@ loop-holds c =
 load-requires : tie.Need-load-requires Inv-loop μ-loop
 load-requires c κs = search needs
 
-within-requires : tie.Need-within-requires Inv-loop μ-loop
-within-requires c κs = search needs
+sender-within-requires : tie.Need-sender-within-requires Inv-loop μ-loop
+sender-within-requires c κs = search needs
 
 returns-3 : tie.Need-returns-3 Inv-loop μ-loop
 returns-3 c =
     let a = c .before .before .before .before .before .before .before .before .before .before .before .before .before .args in
-    looked-outside (c .before .before .before .before .loop .inv) (c .before .before .before .loop-test .taken) _ (c .before .before .load .ensures) (a .a) (sym (c .before .within .ensures) ∙ not-true _ (c .if3 .taken))
+    looked-outside (c .before .before .before .before .loop .inv) (c .before .before .before .loop-test .taken) _ (c .before .before .load .ensures) (a .a) (sym (c .before .sender-within .ensures) ∙ not-true _ (c .if3 .taken))
 
 cast-key : tie.Need-cast-key Inv-loop μ-loop
 cast-key c = search needs
@@ -77,7 +77,7 @@ returns-4 : tie.Need-returns-4 Inv-loop μ-loop
 returns-4 c =
     let a = c .before .before .before .before .before .before .before .before .before .before .before .before .before .before .before .before .before .args in
     let w = c .before .before .before .before .before in
-    looked-twice (c .before .before .before .before .before .before .before .before .loop .inv) (c .before .before .before .before .before .before .before .loop-test .taken) _ (w .before .load .ensures) (sym (w .within .ensures) ∙ not-false _ (c .before .before .before .before .if3 .left)) (a .a) _ (c .before .fresh .ensures) (not-true _ (c .if4 .taken))
+    looked-twice (c .before .before .before .before .before .before .before .before .loop .inv) (c .before .before .before .before .before .before .before .loop-test .taken) _ (w .before .load .ensures) (sym (w .sender-within .ensures) ∙ not-false _ (c .before .before .before .before .if3 .left)) (a .a) _ (c .before .fresh .ensures) (not-true _ (c .if4 .taken))
 
 cast-seen : tie.Need-cast-seen Inv-loop μ-loop
 cast-seen c = search needs
@@ -100,7 +100,7 @@ loop-less c = omega arith
 loop-again : tie.Need-loop-again Inv-loop μ-loop
 loop-again c =
     let w = c .before .before .before .before .before .before .before in
-    looked-more (c .before .before .before .before .before .before .before .before .before .before .loop .inv) (c .before .before .before .before .before .before .before .before .before .loop-test .taken) _ (w .before .load .ensures) (sym (w .within .ensures) ∙ not-false _ (c .before .before .before .before .before .before .if3 .left)) _ _ (c .before .before .before .fresh .ensures) (not-false _ (c .before .before .if4 .left)) (c .next-place .ensures)
+    looked-more (c .before .before .before .before .before .before .before .before .before .before .loop .inv) (c .before .before .before .before .before .before .before .before .before .loop-test .taken) _ (w .before .load .ensures) (sym (w .sender-within .ensures) ∙ not-false _ (c .before .before .before .before .before .before .if3 .left)) _ _ (c .before .before .before .fresh .ensures) (not-false _ (c .before .before .if4 .left)) (c .next-place .ensures)
 
 returns-5 : tie.Need-returns-5 Inv-loop μ-loop
 returns-5 c =
@@ -125,7 +125,7 @@ look-spec =
     add-wanted
     loop-holds
     load-requires
-    within-requires
+    sender-within-requires
     returns-3
     cast-key
     fresh-requires

@@ -1,7 +1,7 @@
 -- One pass. Assumes nothing.
 use borrow.Author.Needs.{needs}
-use Rattle.words.proofs.within.Statement.{statement}
-use Rattle.words.proofs.within.Tie as tie
+use Rattle.words_look.proofs.within.Statement.{statement}
+use Rattle.words_look.proofs.within.Tie as tie
 
 look-requires : tie.Need-look-requires
 look-requires c κs = search needs

@@ -2,8 +2,8 @@
 use mathlib.Core.Path.{refl}
 use Rattle.state.specs.Limits.{lastWithin}
 use borrow.Author.Needs.{needs}
-use Rattle.words.proofs.last_within.Statement.{statement}
-use Rattle.words.proofs.last_within.Tie as tie
+use Rattle.words_look.proofs.last_within.Statement.{statement}
+use Rattle.words_look.proofs.last_within.Tie as tie
 
 cast-result : tie.Need-cast-result
 cast-result c = search needs

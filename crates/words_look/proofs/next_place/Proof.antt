@@ -1,8 +1,8 @@
 -- The tests are those of the definition. Assumes nothing.
 use borrow.Author.Tests.{lt-ltb, le-ltb}
 use borrow.Author.Needs.{needs}
-use Rattle.words.proofs.next_place.Statement.{statement}
-use Rattle.words.proofs.next_place.Tie as tie
+use Rattle.words_look.proofs.next_place.Statement.{statement}
+use Rattle.words_look.proofs.next_place.Tie as tie
 
 returns : tie.Need-returns
 returns c = rw (lt-ltb _ _ (c .if1 .taken))

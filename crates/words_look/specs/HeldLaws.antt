@@ -16,10 +16,12 @@ use Rattle.state.specs.State.{sendersMost, senderAt}
 use Rattle.state.specs.Table.{lookAt}
 use Rattle.state.specs.WithinLaws.{SenderWithin, valid-settings, valid-sender, sender-of}
 use Rattle.rules.specs.calls.Alike.{seen}
 use Rattle.words.specs.declared.Record.{Record}
-use Rattle.words.specs.LookLaws.{Held, state-facts, held-by, sender-in, fit-each}
-use Rattle.words.specs.Words.{word, recordAt, senderOf, shown, fits, isState, stateIn, lookIn}
+use Rattle.words.specs.Words.{word, recordAt, senderOf, shown, fits, isState, stateIn}
+use Rattle.words.specs.StateLaws.{state-facts, sender-in, fit-each}
 use Rattle.words.specs.WordsLaws.{shown-seen}
+use Rattle.words_look.specs.Look.{lookIn}
+use Rattle.words_look.specs.LookLaws.{Held, held-by}
 
 -- ---- what the pass found
 

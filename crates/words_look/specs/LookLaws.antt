@@ -25,9 +25,11 @@ use Rattle.state.specs.State.{sendersMost, noSender, senderAt, firstWhere}
 use Rattle.state.specs.Table.{find, lookAt}
 use Rattle.state.specs.TableLaws.{find-more, look-outside}
 use Rattle.state.specs.WithinLaws.{valid-settings, valid-sender, valid-new, sender-facts, sender-of}
 use Rattle.words.specs.declared.Record.{Record}
-use Rattle.words.specs.ListedLaws.{listed-at}
-use Rattle.words.specs.Words.{place, each, wordsMost, word, recordAt, addressIn, addressWord, senderOf, fits, sendersIn, stateIn, fitTo, settingsFit, isState, outside, lookIn}
+use Rattle.words.specs.Words.{wordsMost, word, recordAt, addressIn, addressWord, senderOf, fits, sendersIn, stateIn, fitTo, isState}
+use Rattle.words.specs.StateLaws.{sender-in, fit-each, state-facts, state-of}
+use Rattle.words.specs.WordsLaws.{address-back}
+use Rattle.words_look.specs.Look.{settingsFit, outside, lookIn}
 
 -- ---- addresses
 
@@ -43,64 +45,12 @@ address-same w v =
     ap (λ (x : ℕ). eqb x v) (sym (address-key w)) ∙ ap (λ (y : ℕ). eqb (keyOf (addressIn w)) y) (sym (address-key v))
     ∙ same-key (addressIn w) (addressIn v) (address-narrow w) (address-narrow v)
 
--- The word of an address says it.
-pub address-back : (a : Address) → Narrow a → addressIn (addressWord a) ≡ a
-address-back a h =
-    let n = a .node .0 in
-    let f = a .field .0 in
-    let hi : (f * 65536 + n) / 65536 ≡ f = omega arith in
-    let lo : (f * 65536 + n) % 65536 ≡ n = omega arith in
-    rw (hi, lo)
-
 -- An address within its limits has three octets.
 pub address-short : (w : ℕ) → isAddress (addressIn w) ≡ true → w < 4294967296
 address-short w e =
     let field = w / 65536 in
     let is-field = and-left (isDataField field) (isNode (w % 65536)) e in
     omega (arith, leb-true field 255 (and-right (leb 1 field) (leb field 255) is-field))
-
--- ---- the senders
-
-pub sender-in : (l : List ℕ) (i : ℕ) → i < sendersMost → senderAt (stateIn l) i ≡ senderOf (recordAt l i)
-unfolding sendersIn
-sender-in l i h = listed-at noSender (λ k. senderOf (recordAt l k)) sendersMost i h
-
-pub fit-each : (l : List ℕ) (k : ℕ) → fitTo l k ≡ true → (i : ℕ) → i < k → fits (recordAt l i) ≡ true
-unfolding fitTo
-fit-each l zero e i h = absurd (omega arith)
-fit-each l (suc k) e i h = ⊎-elim
-    (λ (q : i < k). fit-each l k (and-left (fitTo l k) (fits (recordAt l k)) e) i q)
-    (λ (q : k ≤ i).
-    let z : i ≡ k = omega arith in
-    rw z (and-right (fitTo l k) (fits (recordAt l k)) e))
-    (lt-or-le i k)
-
--- ---- words that are a state
-
-pub record IsState (l : List ℕ) : Type 0 where
-  pub many : length l ≡ wordsMost
-  pub test : word l 0 ≤ 1
-  pub few : word l 4 ≤ sendersMost
-  pub fit : fitTo l (word l 4) ≡ true
-
-pub state-facts : (l : List ℕ) → isState l ≡ true → IsState l
-unfolding isState
-state-facts l e =
-    let a1 = eqb (length l) wordsMost in
-    let a2 = leb (word l 0) 1 in
-    let a3 = leb (word l 4) sendersMost in
-    let e3 = and-left (a1 && a2 && a3) (fitTo l (word l 4)) e in
-    let e2 = and-left (a1 && a2) a3 e3 in
-    record {
-      many = eqb-true (length l) wordsMost (and-left a1 a2 e2);
-      test = leb-true (word l 0) 1 (and-right a1 a2 e2);
-      few = leb-true (word l 4) sendersMost (and-right (a1 && a2) a3 e3);
-      fit = and-right (a1 && a2 && a3) (fitTo l (word l 4)) e;
-    }
-
-pub state-of : (l : List ℕ) → IsState l → isState l ≡ true
-unfolding isState
-state-of l f = rw (eq-eqb (length l) wordsMost (f .many), le-leb (word l 0) 1 (f .test), le-leb (word l 4) sendersMost (f .few), f .fit)
 
 -- ---- number 9
 

@@ -1,0 +1,4 @@
+pub mod Look
+pub mod SenderLaws
+pub mod LookLaws
+pub mod HeldLaws
