@@ -90,10 +90,17 @@ fn read_cut(packet: &[u8]) -> Cut
 {
     Cut {
         ml: read4(packet, places::ML),
-        bsize: read2(packet, places::BSIZE),
+        bsize: read_bsize(packet),
         cbn: read1(packet, places::CBN),
         tbn: read1(packet, places::TBN),
     }
+}
+
+// The PDU's length alone, for whoever judges it before the rest of the header is there.
+pub fn read_bsize(packet: &[u8]) -> u16
+    ensures { λ r. ⌜ r ≡ cutOf (now (packet .entry)) .bsize ⌝ }
+{
+    read2(packet, places::BSIZE)
 }
 
 // Whether every field that Table 7 fixes holds what it fixes.
