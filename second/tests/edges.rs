@@ -271,9 +271,11 @@ fn twelve_pieces_and_sixty_four() {
     twelve.push("P 1 1 0 16384 0 0 0".into());
     twelve.push("Q 0 0 0 0 0".into());
     expect("5.2 Twelve pieces", &twelve.join("\n"));
-    let mut most: Vec<String> = (1..=63)
-        .map(|held| format!("P 0 0 {held} 0 0 0 0"))
-        .collect();
+    let stored = |held: u32| format!("P 0 0 {held} 0 0 0 0");
+    let mut most: Vec<String> = (1..=63).map(stored).collect();
+    most.push("Q 0 1 1 64 64".into());
+    most.push("P 0 0 1 0 0 5 99".into());
+    most.extend((2..=63).map(stored));
     most.push("P 1 1 0 16384 0 0 0".into());
     most.push("Q 0 0 0 0 0".into());
     expect("5.3 Sixty-four pieces", &most.join("\n"));
@@ -706,8 +708,10 @@ fn sums_of_joined_messages() {
     let twelve = pieces([0, 100, 16_384, 1_396], &order);
     expect_sums("5.2 Twelve pieces", 2, &twelve);
     let reversed: Vec<usize> = (1..=64).rev().collect();
+    let but_one: Vec<usize> = (1..=63).collect();
+    let dropped = pieces([1, 99, 16_384, 256], &but_one);
     let most = pieces([1, 100, 16_384, 256], &reversed);
-    expect_sums("5.3 Sixty-four pieces", 2, &most);
+    expect_sums("5.3 Sixty-four pieces", 2, &[dropped, most].concat());
     let between = [
         [1, 100, 600, 256, 3],
         [0, 104, 600, 256, 1],

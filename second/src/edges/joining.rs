@@ -43,6 +43,10 @@ fn twelve_pieces(past: &mut Past) {
 
 fn sixty_four_pieces(past: &mut Past) {
     past.section("5.3 Sixty-four pieces");
+    for c in 1..=63 {
+        past.piece([2, 9, 5, 99, 1, 16_384, 256, c]);
+    }
+    past.ask();
     for c in (1..=64).rev() {
         past.piece([2, 9, 5, 100, 1, 16_384, 256, c]);
     }
