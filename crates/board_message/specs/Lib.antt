@@ -1,1 +1,2 @@
+pub mod private
 pub mod MessageLaws

@@ -4,11 +4,11 @@ use Prim.Native.Nat.{ℕ, _%_, _≤_, _<_}
 use mathlib.Core.Path.{_≡_, refl, sym, ap, subst, _∙_}
 use mathlib.Core.Logic.{_≢_, ⊎-elim}
 use mathlib.Core.Bool.{Bool, true, false, not, cond, _&&_}
-use mathlib.Core.List.{List}
+use mathlib.Core.List.{List, [], _∷_, _++_}
 use native.Mathlib.Omega.{arith}
 use lib.Dec.{eqb, leb}
 use lib.ListN.{length}
-use borrow.Author.Tests.{leb-true}
+use borrow.Author.Tests.{leb-true, ne-eqb, not-false}
 use Rattle.octets.specs.Run.{laid}
 use Rattle.octets.specs.Split.{eq-or-ne, true-or-false, never-both, cond-case, both, and-left, and-right}
 use Rattle.header.specs.declared.Head.{Head}
@@ -32,21 +32,22 @@ use Rattle.rules.specs.calls.Admit.{senderRows, senderAfter, admitted, notAdmit
 use Rattle.rules.specs.calls.AdmitLaws.{Admitted, admitted-facts, admission-number, admission-yes}
 use Rattle.rules.specs.calls.AdmitValidLaws.{after-stays}
 use Rattle.rules.specs.calls.Alike.{seen}
-use Rattle.rules.specs.calls.First.{first}
-use Rattle.rules.specs.calls.FirstLaws.{first-here}
+use Rattle.rules.specs.calls.First.{row, first}
+use Rattle.rules.specs.calls.FirstLaws.{numbered, first-here, first-none, first-append}
 use Rattle.rules.specs.calls.Message.{headWithin, packetRows, messageAnswer, messageStorage, refused, whereBy, storageAfter, withSender, answerOf}
 use Rattle.rules.specs.calls.MessageLaws.{Passed, passed-facts, Answered, pass-refused, pass-late, pass-admitted, pass-taken}
 use Rattle.rules.specs.calls.SeenLaws.{looks-rows, looks-outcome, looks-held, looks-dropped, changes-after}
 use Rattle.words.specs.declared.Record.{Record}
-use Rattle.words.specs.Words.{place, word, recordWords, recordAt, senderOf, shown, joinedBy, fits, isState, stateIn, written, leftBy}
+use Rattle.words.specs.Words.{place, word, addressIn, recordWords, recordAt, senderOf, shown, joinedBy, fits, isState, stateIn, written, leftBy}
 use Rattle.words.specs.StateLaws.{state-facts}
-use Rattle.words_look.specs.Look.{outside, lookIn}
-use Rattle.words_look.specs.LookLaws.{Held}
+use Rattle.words_look.specs.Look.{outside, lookIn, placeIn}
+use Rattle.words_look.specs.LookLaws.{Held, held-by, look-tells, look-held}
 use Rattle.words_look.specs.HeldLaws.{look-in, look-out, look-so, count-octet, n1-octets, place-few, sender-here, sender-ok, own-fits, loaded-seen}
 use Rattle.words.specs.WrittenLaws.{left-same, put-written, put-state, put-is-state, Means, means-same, means-by}
 use Rattle.words.specs.ChangedLaws.{closed-there, opened-there, joined-fits}
 use Rattle.board.specs.declared.Told.{Told}
 use Rattle.board.specs.Calls.{inNumbers, refusedWith, toldOf, messageFor, storageFor}
+use Rattle.board_message.specs.private.Early.{earlyRows}
 
 -- What the call answered and left.
 abbrev pub Met : List ℕ → List ℕ → List ℕ → Told → List ℕ → List ℕ → Type 0
@@ -216,6 +217,34 @@ module _ (l storage packet : List ℕ) (h : Head) (a : Address) (k : Look) (coun
               means-by l (laid l (place (k .at)) (recordWords q)) (messageAnswer (stateIn l) (length storage) packet .state)
               (put-words ∙ ap (leftBy l) taken-state) (put-is-state l (facts-are .many) (k .at) few q facts-are own)
               (put-state l (facts-are .many) (k .at) few q ∙ ap (withSender (stateIn l) (k .at)) is ∙ taken-state)
+
+-- ---- what is told before the header is read
+
+-- 9, 11 and 12 are told as of all rows: of what stands behind them, and of the sender, they say nothing.
+early-all : (l : List ℕ) (room : ℕ) (packet : List ℕ) (n : ℕ) → n ≡ first (earlyRows l room packet) → n ≢ 0
+    → (a : Address) (i : ℕ) → n ≡ first (packetRows (lookIn l a .valid) (word l 4 % 256) i room packet (headOf packet))
+unfolding numbered
+early-all l room packet n e ne a i =
+    let rows = earlyRows l room packet in
+    let behind = row 13 (not (headWithin packet (headOf packet))) ∷ row 14 (leb (word l 4 % 256) i) ∷ [] in
+    let all : first (rows ++ behind) ≡ n = first-append rows behind refl ∙ rw (sym e, ne-eqb n 0 ne) in
+    rw (look-tells l a, sym (look-tells l (addressIn 0))) (sym all)
+
+pub met-first : (l storage packet : List ℕ) (n : ℕ) → n ≡ first (earlyRows l (length storage) packet) → (n ≡ 0 → ⊥)
+    → (t : Told) → t ≡ refusedWith n → Met l storage packet t l storage
+met-first l storage packet n e ne t et =
+    let h = headOf packet in
+    let a = source h in
+    met-early l storage packet h a (lookIn l a) (word l 4 % 256) refl refl refl refl n (early-all l (length storage) packet n e ne a (lookIn l a .at)) ne t et
+
+-- Where none of them applies, the place that is looked for is the sender's.
+pub look-by : (l : List ℕ) (room : ℕ) (packet : List ℕ) (n : ℕ) → n ≡ first (earlyRows l room packet) → n ≡ 0
+    → (a : Address) (count i : ℕ) → count ≡ word l 4 % 256 → i ≡ placeIn l a count → record { valid = true; at = i } ≡ lookIn l a
+look-by l room packet n e none a count i ec ei =
+    let is-valid = not-false (lookIn l (addressIn 0) .valid) (first-none 9 (not (lookIn l (addressIn 0) .valid)) _ (omega arith) (sym e ∙ none) .0) in
+    let held = held-by l (addressIn 0) is-valid in
+    let own : i ≡ placeIn l a (word l 4) = ei ∙ ap (placeIn l a) (ec ∙ count-octet l (held .is-state)) in
+    ap (λ (x : ℕ). record { valid = true; at = x }) own ∙ look-held l a held
 
 -- What the call leaves means the state that the call by value leaves.
 pub message-means : (l storage packet : List ℕ) → isState l ≡ true → Means l (messageAnswer (stateIn l) (length storage) packet .state)

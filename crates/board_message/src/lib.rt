@@ -3,21 +3,28 @@ ghost use mathlib.Core.Path.{_≡_};
 ghost use lib.ListN.{length};
 ghost use Rattle.answers.specs.declared.Where.the-variants.{Packet};
 ghost use Rattle.answers.specs.Told.{whereTold};
+ghost use Rattle.rules.specs.calls.First.{first};
 ghost use Rattle.rules.specs.calls.Message.{messageAnswer};
 ghost use Rattle.words.specs.Words.{stateIn, leftBy};
 ghost use Rattle.board.specs.Calls.{partStart, partLength, inNumbers, refusedWith, messageFor, storageFor};
+ghost use Rattle.board_message.specs.private.Early.{earlyRows};
 use answers::Dropped;
 use answers::Outcome;
 use answers::Where;
 use board::Told;
 use header::SIZE;
+use header::read_bsize;
 use header::read_head;
+use receiver::message::MOST;
 use receiver::message::packet_number;
 use receiver::message::store;
 use receiver::message::where_to;
 use sender::admit;
 use state::Address;
+use state::Receiver;
 use words::places;
+use words_look::place_of;
+use words_look::within;
 
 #[no_mangle]
 pub extern "C" fn adp_message(state: &mut [u64], storage: &mut [u8], packet: &[u8]) -> Told
@@ -25,13 +32,16 @@ pub extern "C" fn adp_message(state: &mut [u64], storage: &mut [u8], packet: &[u
     ensures left { λ _. ⌜ now (state .exit) ≡ leftBy (now (state .entry)) (messageAnswer (stateIn (now (state .entry))) (length (now (storage .entry))) (now (packet .entry)) .state) ⌝ }
     ensures stored { λ _. ⌜ now (storage .exit) ≡ storageFor (now (state .entry)) (now (storage .entry)) (now (packet .entry)) ⌝ }
 {
-    let h = read_head(packet);
-    let look = words_look::look(state, Address::of(h));
-    let at = look.at;
-    let count = (words::at(state, places::COUNT) % 256) as u8;
-    let early = packet_number(look.valid, count, at, storage.len(), packet, h);
+    let early = early_number(state, storage.len(), packet);
     if early != 0 {
         return refused(early);
+    }
+    let h = read_head(packet);
+    let count = (words::at(state, places::COUNT) % 256) as u8;
+    let at = place_of(state, count, Address::of(h));
+    let number = packet_number(true, count, at, storage.len(), packet, h);
+    if number != 0 {
+        return refused(number);
     }
     let r = words::load(state, at);
     let test = words::at(state, places::TEST) == 1;
@@ -54,6 +64,25 @@ pub extern "C" fn adp_message(state: &mut [u64], storage: &mut [u8], packet: &[u
         where_to(outcome, at, h),
         packet.len(),
     )
+}
+
+// The first of 9, 11 and 12 that applies, or 0. A header whose length is known is read without a test of each octet's
+// place; `packet_number` asks for these numbers once more, of which nothing is left in what it compiles to.
+fn early_number(state: &[u64], room: usize, packet: &[u8]) -> u8
+    ensures { λ r. ⌜ r ≡ first (earlyRows (now (state .entry)) room (now (packet .entry))) ⌝ }
+{
+    if !within(state) {
+        return 9;
+    }
+    let count = (words::at(state, places::COUNT) % 256) as u8;
+    if room != (count as usize) * Receiver::AREA {
+        return 11;
+    }
+    let size = packet.len();
+    if (size < SIZE) | (MOST < size) | (size != read_bsize(packet) as usize) {
+        return 12;
+    }
+    0
 }
 
 // "nothing more"

@@ -1,12 +1,12 @@
 -- What a call changes of one sender's words is what it changes of the sender. Assumes nothing.
-use Prim.Native.Nat.{ℕ, _+_, _*_, _/_, _%_, _≤_, _<_}
-use mathlib.Core.Path.{_≡_, refl, sym, ap, _∙_}
-use mathlib.Core.Bool.{Bool, true, false, not, cond, _&&_, _||_}
+use Prim.Native.Nat.{ℕ, _+_, _*_, _/_, _%_, _<_}
+use mathlib.Core.Path.{_≡_, refl}
+use mathlib.Core.Bool.{Bool, true, false, not, _&&_, _||_}
 use native.Mathlib.Omega.{arith}
 use lib.Dec.{leb, ltb}
-use borrow.Author.Tests.{le-leb, leb-true, lt-ltb}
+use borrow.Author.Tests.{leb-true, lt-ltb}
 use Rattle.octets.specs.Split.{and-left, and-right}
-use Rattle.ring.specs.Ring.{M, isNumber}
+use Rattle.ring.specs.Ring.{M}
 use Rattle.cut.specs.PossibleLaws.{several-facts, several-most}
 use Rattle.state.specs.declared.Heard.{Heard}
 use Rattle.state.specs.declared.Last.{Last}
@@ -17,7 +17,7 @@ use Rattle.state.specs.State.{noMessage, withMessage, withHeard, withLast}
 use Rattle.state.specs.WithinLaws.{message-facts}
 use Rattle.rules.specs.calls.Alike.{seen}
 use Rattle.words.specs.declared.Record.{Record}
-use Rattle.words.specs.Words.{half, flag, flagWord, pair, cutWord, lastIn, messageIn, senderOf, recordOf, joinedBy, heardAs, fits}
+use Rattle.words.specs.Words.{half, flag, flagWord, pair, cutWord, lastIn, messageIn, senderOf, joinedBy, heardAs, fits}
 
 -- ---- one word
 

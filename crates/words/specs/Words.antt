@@ -1,10 +1,10 @@
 -- A receiver's state in words of 64 bits that a board lends: which words are a state, and which state they are. One
 -- table says where each word stands.
 use Prim.Native.Nat.{ℕ, zero, suc, _+_, _*_, _/_, _%_}
-use mathlib.Core.Bool.{Bool, true, false, not, cond, _&&_, _||_}
+use mathlib.Core.Bool.{Bool, true, not, cond, _&&_, _||_}
 use mathlib.Core.List.{List, [], _∷_, _++_}
 use lib.Dec.{eqb, leb, ltb}
-use lib.ListN.{length, getD, take, drop}
+use lib.ListN.{length, getD, drop}
 use Rattle.state.specs.declared.Address.{Address}
 use Rattle.state.specs.declared.Heard.{Heard}
 use Rattle.state.specs.declared.Last.{Last}

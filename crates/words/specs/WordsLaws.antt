@@ -1,10 +1,9 @@
 -- Laws of a state in words: what one sender's words say, and that nothing is lost by it. Assumes nothing.
-use Prim.Native.Nat.{ℕ, zero, suc, _+_, _-_, _*_, _/_, _%_, _≤_, _<_}
-use mathlib.Core.Path.{_≡_, refl, sym, ap, _∙_}
-use mathlib.Core.Logic.{⊎-elim}
-use mathlib.Core.Bool.{Bool, true, false, not, cond, _&&_, _||_}
-use mathlib.Core.List.{List, [], _∷_, _++_, append-assoc}
-use native.Mathlib.Nat.{mod-eq-of-lt, mod-lt}
+use Prim.Native.Nat.{ℕ, suc, _+_, _*_, _/_, _%_, _≤_, _<_}
+use mathlib.Core.Path.{_≡_, refl, sym, _∙_}
+use mathlib.Core.Bool.{Bool, true, false, cond, _&&_}
+use mathlib.Core.List.{List, append-assoc}
+use native.Mathlib.Nat.{mod-eq-of-lt}
 use native.Mathlib.Numerals.{unary-clauses}
 use native.Mathlib.Omega.{arith}
 use mir.Val.{boolByte}
@@ -14,7 +13,7 @@ use lib.Seq.{getD-drop, sets-eq}
 use borrow.Author.Tests.{ltb-true, leb-true, le-leb, lt-leb}
 use Rattle.octets.specs.Run.{laid}
 use Rattle.octets.specs.RunLaws.{laid-fits}
-use Rattle.octets.specs.Split.{lt-or-le, true-or-false, never-both, and-left, and-right}
+use Rattle.octets.specs.Split.{and-left, and-right}
 use Rattle.header.specs.Codes.{isDataField, isNode}
 use Rattle.cut.specs.PossibleLaws.{several-facts, several-most}
 use Rattle.state.specs.declared.Address.{Address}

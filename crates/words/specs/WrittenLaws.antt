@@ -3,13 +3,13 @@
 use Prim.Native.Nat.{ℕ, zero, suc, _+_, _-_, _*_, _/_, _%_, _≤_, _<_}
 use mathlib.Core.Path.{_≡_, refl, sym, ap, _∙_}
 use mathlib.Core.Logic.{_≢_, _⊎_, inl, inr, ⊎-elim}
-use mathlib.Core.Bool.{Bool, true, false, cond, _&&_}
+use mathlib.Core.Bool.{true, _&&_}
 use mathlib.Core.List.{List, [], _∷_, _++_, append-assoc}
 use native.Mathlib.Nat.{div-add-mod'}
 use native.Mathlib.Numerals.{unary-clauses, lt-of-le-of-ne}
 use native.Mathlib.Omega.{arith}
-use lib.Dec.{eqb, leb}
-use lib.ListN.{length, getD, set, take, drop, take-append-drop, length-append, length-drop, length-set}
+use lib.Dec.{leb}
+use lib.ListN.{length, set, take, drop, take-append-drop, length-drop, length-set}
 use lib.Seq.{take-suc, take-add, length-take-le, drop-at, drop-drop, drop-set-lt, getD-set-same, getD-set-other}
 use borrow.Author.Tests.{leb-true}
 use Rattle.octets.specs.Run.{laid}
@@ -17,7 +17,7 @@ use Rattle.octets.specs.RunLaws.{laid-fits, length-laid, laid-out, laid-drop}
 use Rattle.octets.specs.Split.{lt-or-le, eq-or-ne, cond-case, and-left, and-right}
 use Rattle.state.specs.declared.Receiver.{Receiver}
 use Rattle.state.specs.declared.Sender.{Sender}
-use Rattle.state.specs.State.{sendersMost, noSender, senderAt, settingsFrom, stateOf, withSenders}
+use Rattle.state.specs.State.{sendersMost, noSender, senderAt, settingsFrom, stateOf}
 use Rattle.rules.specs.calls.Message.{withSender}
 use Rattle.words.specs.declared.Record.{Record}
 use Rattle.words.specs.Words.{before, each, place, wordsMost, word, recordIn, recordWords, recordAt, half, flag, flagWord, senderOf, recordOf, fits, listed, sendersIn, stateIn, fitTo, isState, senderWords, settingsWords, front, written, leftBy}
@@ -57,6 +57,10 @@ five l many test = rw (flag-back (word l 0) test) (sym (firsts before l (omega a
 ten : (l : List ℕ) (i : ℕ) → place i + each ≤ length l → recordWords (recordAt l i) ≡ take each (drop (place i) l)
 unfolding listed
 ten l i h = rw (record-there l i h) (sym (firsts each (drop (place i) l) (omega (arith, length-drop (place i) l))))
+
+-- So they say the sender by themselves.
+pub part-in : (l : List ℕ) (i : ℕ) → place i + each ≤ length l → recordIn (take each (drop (place i) l)) ≡ recordAt l i
+part-in l i h = ap recordIn (sym (ten l i h))
 
 -- The words of the first k senders are those that were read.
 front-same : (l : List ℕ) → length l ≡ wordsMost → word l 0 ≤ 1 → (k : ℕ) → k ≤ sendersMost → fitTo l k ≡ true → front (stateIn l) k ≡ take (place k) l

@@ -67,7 +67,8 @@ pub struct Record {
     pub timeout: u64,
 }
 
-fn first_of(i: u8) -> usize
+// Where the words of the sender at a place begin.
+pub fn first_of(i: u8) -> usize
     ensures { λ r. ⌜ r ≡ place i ⌝ }
 {
     places::SENDERS + (i as usize) * places::EACH
@@ -129,7 +130,7 @@ impl Record {
     };
 
     // The open message.
-    pub fn message_of(self) -> Message
+    fn message_of(self) -> Message
         ensures { λ r. ⌜ r ≡ narrowed self ⌝ }
     {
         let version = Version((self.message / HALF) as u32);

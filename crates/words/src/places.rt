@@ -18,3 +18,25 @@ pub const EACH: usize = 10;
 
 // how many words a state has
 pub const WORDS: usize = 165;
+
+// ---- within one sender's words
+
+pub const ADDRESS: usize = 0;
+
+pub const LAST: usize = 1;
+
+pub const OPEN: usize = 2;
+
+pub const MESSAGE: usize = 3;
+
+pub const CUT: usize = 4;
+
+pub const MAP: usize = 5;
+
+pub const STAMP: usize = 6;
+
+pub const ALIVE: usize = 7;
+
+pub const HEARD: usize = 8;
+
+pub const TIMEOUT: usize = 9;

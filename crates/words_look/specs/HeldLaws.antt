@@ -1,8 +1,8 @@
--- What is known of words that one pass found to be a state within its limits, and of the sender's words at a place.
+-- What is known of words that a look found to be a state within its limits, and of the sender's words at a place.
 -- Assumes nothing.
-use Prim.Native.Nat.{ℕ, _%_, _≤_, _<_}
+use Prim.Native.Nat.{ℕ, _%_, _<_}
 use mathlib.Core.Path.{_≡_, sym, ap, subst, _∙_}
-use mathlib.Core.Bool.{Bool, true, false, _&&_}
+use mathlib.Core.Bool.{true, false, _&&_}
 use mathlib.Core.List.{List}
 use native.Mathlib.Nat.{mod-eq-of-lt}
 use native.Mathlib.Omega.{arith}
@@ -23,7 +23,7 @@ use Rattle.words.specs.WordsLaws.{shown-seen}
 use Rattle.words_look.specs.Look.{lookIn}
 use Rattle.words_look.specs.LookLaws.{Held, held-by}
 
--- ---- what the pass found
+-- ---- what the look found
 
 module _ (l : List ℕ) (a : Address) (k : Look) (el : k ≡ lookIn l a) where
   pub look-in : isState l ≡ true → k ≡ lookAt (stateIn l) a

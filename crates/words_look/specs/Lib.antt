@@ -1,4 +1,5 @@
 pub mod Look
-pub mod SenderLaws
+pub mod private
+pub mod AddressLaws
 pub mod LookLaws
 pub mod HeldLaws

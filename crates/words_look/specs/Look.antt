@@ -1,21 +1,22 @@
--- One pass over a state's words: number 9 and a sender's place.
-use Prim.Native.Nat.{ℕ}
-use mathlib.Core.Bool.{Bool, false, cond, _&&_}
+-- A look at all words of a state: number 9, and a sender's place.
+use Prim.Native.Nat.{ℕ, zero, suc}
+use mathlib.Core.Bool.{false, cond}
 use mathlib.Core.List.{List}
-use lib.Dec.{leb}
+use lib.Dec.{ltb}
 use Rattle.state.specs.declared.Address.{Address}
 use Rattle.state.specs.declared.Look.{Look}
-use Rattle.state.specs.Limits.{settingsWithin}
+use Rattle.state.specs.Limits.{sameAddress}
 use Rattle.state.specs.Table.{lookAt}
-use Rattle.words.specs.Words.{word, isState, stateIn}
-
--- The test flag and the settings within their limits.
-unfoldable pub settingsFit : List ℕ → Bool
-settingsFit l = leb (word l 0) 1 && settingsWithin (stateIn l)
+use Rattle.words.specs.Words.{place, word, addressIn, isState, stateIn}
 
 abbrev pub outside : Look
 outside = record { valid = false; at = 0 }
 
--- What one pass over the words finds: number 9 for words that are no state, and for a state outside its limits.
+-- What a look at the words finds: number 9 for words that are no state, and for a state outside its limits.
 unfoldable pub lookIn : List ℕ → Address → Look
 lookIn l a = cond (isState l) (lookAt (stateIn l) a) outside
+
+-- "in table order": the first of the first k places whose sender has this address; k where none has it.
+unfoldable pub placeIn : List ℕ → Address → ℕ → ℕ
+placeIn l a zero = 0
+placeIn l a (suc k) = cond (ltb (placeIn l a k) k) (placeIn l a k) (cond (sameAddress (addressIn (word l (place k))) a) k (suc k))

@@ -1,15 +1,17 @@
-// One pass over a state in lent words: number 9, and a sender's place.
+// A look at all words of a state in lent words: number 9, and a sender's place.
 //
 // Every public function is total: it takes any words, as many as there are. Which words are a state, and which state they
-// are, is said by crate `words`; the limits are the state's own.
+// are, is said by crate `words`; the limits are the state's own. 9 is judged for every packet, so the words are looked at
+// where they stand, and no further than to the first that is outside its limits.
 ghost use mathlib.Core.Path.{_≡_};
-ghost use mathlib.Core.Bool.{not, cond, _&&_, _||_};
-ghost use Prim.Native.Nat.{_+_, _<_};
-ghost use lib.Dec.{leb, ltb};
-ghost use Rattle.state.specs.Limits.{isAddress, lastWithin, messageWithin, senderWithin};
-ghost use Rattle.state.specs.State.{sendersMost};
-ghost use Rattle.words.specs.Words.{half, flag, addressIn, lastIn, messageIn, senderOf, fits};
-ghost use Rattle.words_look.specs.Look.{settingsFit, lookIn};
+ghost use mathlib.Core.Bool.{true, _&&_};
+ghost use Rattle.state.specs.Limits.{isAddress, lastWithin, messageWithin};
+ghost use Rattle.words.specs.Words.{recordIn, addressIn, lastIn, messageIn};
+ghost use Rattle.words_look.specs.Look.{placeIn, lookIn};
+ghost use Rattle.words_look.specs.private.Tests.{eachSetting, settingsFit, recordWithin, Sized, recordsWithin, noneTwice, aliveWithin, openWithin, cutWithin};
+use cut::possible::several;
+use header::codes::code_of;
+use map::is_partial;
 use ring::M;
 use state::Address;
 use state::Look;
@@ -17,129 +19,160 @@ use state::Receiver;
 use state::fresh;
 use words::HALF;
 use words::QUARTER;
-use words::Record;
 use words::at;
-use words::load;
+use words::first_of;
 use words::places;
 
-// ---- one pass
+// ---- the whole state
 
 // Number 9: whether the words are a state within its limits.
 pub fn within(words: &[u64]) -> bool
     ensures { λ r. ⌜ r ≡ lookIn (now (words .entry)) (addressIn 0) .valid ⌝ }
 {
-    let look = look(words, Address::NONE);
-    look.valid
+    if words.len() != places::WORDS {
+        return false;
+    }
+    if !settings_within(words) {
+        return false;
+    }
+    let count = (at(words, places::COUNT) % 256) as u8;
+    senders_within(words, count)
 }
 
-// The same, and at which place the sender with this address stands; the count if none has it.
+// The first of the first `count` places where the sender with this address stands; the count if none has it.
+pub fn place_of(words: &[u64], count: u8, a: Address) -> u8
+    ensures { λ r. ⌜ r ≡ placeIn (now (words .entry)) a count ⌝ }
+{
+    let wanted = a.field.0 as u64 * QUARTER + a.node.0 as u64;
+    let mut i: u8 = 0;
+    while i < count {
+        if at(words, first_of(i)) == wanted {
+            return i;
+        }
+        i += 1;
+    }
+    count
+}
+
+// Number 9, and where it does not apply the place of the sender with this address.
 pub fn look(words: &[u64], a: Address) -> Look
     ensures { λ r. ⌜ r ≡ lookIn (now (words .entry)) a ⌝ }
 {
-    if words.len() != places::WORDS {
-        return Look::OUTSIDE;
-    }
-    if !settings_within(words) {
+    if !within(words) {
         return Look::OUTSIDE;
     }
     let count = (at(words, places::COUNT) % 256) as u8;
-    let clock = at(words, places::CLOCK);
-    let wanted = a.field.0 as u64 * QUARTER + a.node.0 as u64;
-    let mut seen = [0u32; Receiver::PLACES];
-    let mut found: u8 = 0;
-    let mut i: u8 = 0;
-    while i < count {
-        let r = load(words, i);
-        if !sender_within(r, clock) {
-            return Look::OUTSIDE;
-        }
-        let key = (r.address % HALF) as u32;
-        if !fresh(&seen, key) {
-            return Look::OUTSIDE;
-        }
-        seen[i as usize] = key;
-        found = next_place(found, i, r.address == wanted);
-        i += 1;
-    }
     Look {
         valid: true,
-        at: found,
+        at: place_of(words, count, a),
     }
 }
 
-// The place that was found, once the sender at place i was looked at too.
-fn next_place(found: u8, i: u8, here: bool) -> u8
-    requires { ⌜ i < sendersMost ⌝ }
-    ensures { λ r. ⌜ r ≡ cond (ltb found i) found (cond here i (i + 1)) ⌝ }
-{
-    if found < i {
-        return found;
-    }
-    if here { i } else { i + 1 }
-}
-
+// Of the states without senders only the empty one passes.
 fn settings_within(words: &[u64]) -> bool
     ensures { λ r. ⌜ r ≡ settingsFit (now (words .entry)) ⌝ }
 {
-    let test = at(words, places::TEST);
+    if !each_setting(words) {
+        return false;
+    }
+    if 0 < at(words, places::COUNT) {
+        return true;
+    }
+    (at(words, places::TEST) != 1) & (at(words, places::N1) == 1) & (at(words, places::T) == 1)
+}
+
+// Each setting by itself.
+fn each_setting(words: &[u64]) -> bool
+    ensures { λ r. ⌜ r ≡ eachSetting (now (words .entry)) ⌝ }
+{
     let n1 = at(words, places::N1);
     let t = at(words, places::T);
-    let count = at(words, places::COUNT);
-    (test <= 1)
+    (at(words, places::TEST) <= 1)
         & (at(words, places::CLOCK) <= Receiver::CLOCK_MOST)
-        & (count <= 16)
+        & (at(words, places::COUNT) <= 16)
         & ((1 <= n1) & (n1 <= 1_024))
         & ((1 <= t) & (t <= 600_000))
-        & ((0 < count) | ((test != 1) & (n1 == 1) & (t == 1)))
 }
 
-// ---- one sender's words
+// ---- all senders
 
-// Whether no word holds what its field can't, and the sender is within its limits.
-fn sender_within(s: Record, clock: u64) -> bool
-    ensures { λ r. ⌜ r ≡ (fits s && senderWithin clock (senderOf s)) ⌝ }
+fn senders_within(words: &[u64], count: u8) -> bool
+    requires { ⌜ Sized (now words) count ⌝ }
+    ensures { λ r. ⌜ r ≡ (recordsWithin (now (words .entry)) count && noneTwice (now (words .entry)) count) ⌝ }
 {
-    if !((s.open <= 1) & (s.alive <= 1)) {
+    if !each_sender(words, count) {
         return false;
     }
-    if !(address_within(s.address) & last_within(s.last)) {
-        return false;
+    // one sender alone is no pair
+    if count <= 1 {
+        return true;
     }
-    if !open_within(s, clock) {
-        return false;
-    }
-    alive_within(s, clock)
+    none_twice(words, count)
 }
 
-// Only an open message is looked at.
-fn open_within(s: Record, clock: u64) -> bool
-    ensures { λ r. ⌜ r ≡ (not (flag (s .«open»)) || messageWithin clock (messageIn s)) ⌝ }
+fn each_sender(words: &[u64], count: u8) -> bool
+    requires { ⌜ Sized (now words) count ⌝ }
+    ensures { λ r. ⌜ r ≡ recordsWithin (now (words .entry)) count ⌝ }
 {
-    if s.open == 1 {
-        return message_within(s, clock);
+    let clock = at(words, places::CLOCK);
+    let mut i: u8 = 0;
+    while i < count {
+        let first = first_of(i);
+        let end = first + places::EACH;
+        if !sender_within(&words[first..end], clock) {
+            return false;
+        }
+        i += 1;
     }
     true
+}
+
+// Whether no address stands twice. Each is within its limits, so it has a key that no place without one has.
+fn none_twice(words: &[u64], count: u8) -> bool
+    requires { ⌜ Sized (now words) count ⌝ }
+    requires { ⌜ recordsWithin (now words) count ≡ true ⌝ }
+    ensures { λ r. ⌜ r ≡ noneTwice (now (words .entry)) count ⌝ }
+{
+    let mut seen = [0u32; Receiver::PLACES];
+    let mut i: u8 = 0;
+    while i < count {
+        let key = (at(words, first_of(i)) % HALF) as u32;
+        if !fresh(&seen, key) {
+            return false;
+        }
+        seen[i as usize] = key;
+        i += 1;
+    }
+    true
+}
+
+// ---- one sender's ten words
+
+// Whether no word holds what its field can't, and the sender is within its limits.
+fn sender_within(s: &[u64], clock: u64) -> bool
+    ensures { λ r. ⌜ r ≡ recordWithin clock (recordIn (now (s .entry))) ⌝ }
+{
+    if !alive_within(s, clock) {
+        return false;
+    }
+    if !address_within(at(s, places::ADDRESS)) {
+        return false;
+    }
+    if !last_within(at(s, places::LAST)) {
+        return false;
+    }
+    open_within(s, clock)
 }
 
 // Only of an alive sender it is looked at when it was heard.
-fn alive_within(s: Record, clock: u64) -> bool
-    ensures { λ r. ⌜ r ≡ (not (flag (s .alive)) || (ltb (s .timeout) half && leb (s .heard) clock)) ⌝ }
+fn alive_within(s: &[u64], clock: u64) -> bool
+    ensures { λ r. ⌜ r ≡ aliveWithin clock (recordIn (now (s .entry))) ⌝ }
 {
-    if s.alive == 1 {
-        return (s.timeout < HALF) & (s.heard <= clock);
+    let alive = at(s, places::ALIVE);
+    if alive == 1 {
+        return (at(s, places::TIMEOUT) < HALF) & (at(s, places::HEARD) <= clock);
     }
-    true
-}
-
-fn message_within(s: Record, clock: u64) -> bool
-    ensures { λ r. ⌜ r ≡ messageWithin clock (messageIn s) ⌝ }
-{
-    // no message has so many pieces
-    if 255 < s.cut % QUARTER {
-        return false;
-    }
-    let m = s.message_of();
-    m.within(clock)
+    alive == 0
 }
 
 fn address_within(w: u64) -> bool
@@ -150,10 +183,55 @@ fn address_within(w: u64) -> bool
     (1 <= field) & (field <= 255) & ((1 <= node) & (node <= 4_095))
 }
 
+// Number 0 is the last where nothing was delivered yet, under version 0.
 fn last_within(w: u64) -> bool
     ensures { λ r. ⌜ r ≡ lastWithin (lastIn w) ⌝ }
 {
-    let version = w / HALF;
     let number = w % HALF;
-    (number <= (M as u64)) & ((version == 0) | (0 < number))
+    ((1 <= number) & (number <= (M as u64))) | (w == 0)
+}
+
+// Only an open message is looked at.
+fn open_within(s: &[u64], clock: u64) -> bool
+    ensures { λ r. ⌜ r ≡ openWithin clock (recordIn (now (s .entry))) ⌝ }
+{
+    let open = at(s, places::OPEN);
+    if open == 1 {
+        return message_within(s, clock);
+    }
+    open == 0
+}
+
+fn message_within(s: &[u64], clock: u64) -> bool
+    ensures { λ r. ⌜ r ≡ messageWithin clock (messageIn (recordIn (now (s .entry)))) ⌝ }
+{
+    if clock < at(s, places::STAMP) {
+        return false;
+    }
+    let number = at(s, places::MESSAGE) % HALF;
+    if !((1 <= number) & (number <= (M as u64))) {
+        return false;
+    }
+    cut_within(at(s, places::CUT), at(s, places::MAP))
+}
+
+// The open message's code, its cut and its map.
+fn cut_within(cut: u64, map: u64) -> bool
+    ensures { λ r. ⌜ r ≡ cutWithin cut map ⌝ }
+{
+    // no message has so many pieces
+    if 255 < cut % QUARTER {
+        return false;
+    }
+    let code = code_of((cut / (HALF * QUARTER)) as u16);
+    if !code.is_user() {
+        return false;
+    }
+    let tbn = (cut % QUARTER % 256) as u8;
+    let n = (cut / HALF % QUARTER) as u32;
+    let u = (cut / QUARTER % QUARTER) as u32;
+    if !several(n, tbn, u) {
+        return false;
+    }
+    is_partial(map, tbn)
 }

@@ -1,29 +1,14 @@
--- One pass over the words, two judges, and what an admitted PDU does. Assumes nothing.
+-- What is told before the header is read, two judges, and what an admitted PDU does. Assumes nothing.
 use Prim.Native.Nat.{ℕ, _%_}
 use mathlib.Core.Path.{ap}
 use denote.Ref.{now}
-use Rattle.board_message.specs.MessageLaws.{met-early, met-late, met-taken}
+use Rattle.board_message.specs.MessageLaws.{met-first, look-by, met-early, met-late, met-taken}
 use borrow.Author.Needs.{needs}
 use Rattle.board_message.proofs.adp_message.Statement.{statement}
 use Rattle.board_message.proofs.adp_message.Tie as tie
 
-read-head-requires : tie.Need-read-head-requires
-read-head-requires c κs = search needs
-
-of-requires : tie.Need-of-requires
-of-requires c κs = search needs
-
-look-requires : tie.Need-look-requires
-look-requires c κs = search needs
-
-at-requires : tie.Need-at-requires
-at-requires c κs = search needs
-
-cast-count : tie.Need-cast-count
-cast-count c = search needs
-
-packet-number-requires : tie.Need-packet-number-requires
-packet-number-requires c κs = search needs
+early-number-requires : tie.Need-early-number-requires
+early-number-requires c κs = search needs
 
 refused-requires : tie.Need-refused-requires
 refused-requires c κs = search needs
@@ -33,11 +18,45 @@ same-length c = search needs
 
 returns : tie.Need-returns
 returns c =
+    let a = c .before .before .before .before .before .before .before .args in
+    met-first (now (a .state)) (now (a .storage)) (now (a .packet)) _ (c .before .before .early-number .ensures) (c .before .if1 .taken) _ (c .refused .ensures)
+
+read-head-requires : tie.Need-read-head-requires
+read-head-requires c κs = search needs
+
+at-requires : tie.Need-at-requires
+at-requires c κs = search needs
+
+cast-count : tie.Need-cast-count
+cast-count c = search needs
+
+of-requires : tie.Need-of-requires
+of-requires c κs = search needs
+
+place-of-requires : tie.Need-place-of-requires
+place-of-requires c κs = search needs
+
+packet-number-requires : tie.Need-packet-number-requires
+packet-number-requires c κs = search needs
+
+refused-requires-2 : tie.Need-refused-requires-2
+refused-requires-2 c κs = search needs
+
+same-length-2 : tie.Need-same-length-2
+same-length-2 c = search needs
+
+returns-2 : tie.Need-returns-2
+returns-2 c =
     let n = c .before .before in
-    let look = n .before .before .before in
-    let head = look .before .before .before in
-    let a = head .before .before .before .before .args in
-    met-early (now (a .state)) (now (a .storage)) (now (a .packet)) _ _ _ _ (head .read-head .ensures) (look .before .of .ensures) (look .look .ensures) (ap (λ (x : ℕ). x % 256) (n .before .at .ensures)) _ (n .packet-number .ensures) (c .before .if1 .taken) _ (c .refused .ensures)
+    let place = n .before in
+    let count = place .before .before .before in
+    let head = count .before .before in
+    let early = head .before .before in
+    let a = early .before .before .before .before .before .args in
+    let l = now (a .state) in
+    let counted = ap (λ (x : ℕ). x % 256) (count .at .ensures) in
+    let look = look-by l _ (now (a .packet)) _ (early .early-number .ensures) (head .before .if1 .left) _ _ _ counted (place .place-of .ensures) in
+    met-early l (now (a .storage)) (now (a .packet)) _ _ _ _ (head .read-head .ensures) (place .before .of .ensures) look counted _ (n .packet-number .ensures) (c .before .if2 .taken) _ (c .refused2 .ensures)
 
 load-requires : tie.Need-load-requires
 load-requires c κs = search needs
@@ -63,25 +82,30 @@ admit-requires c κs = search needs
 refusal-requires : tie.Need-refusal-requires
 refusal-requires c κs = search needs
 
-refused-requires-2 : tie.Need-refused-requires-2
-refused-requires-2 c κs = search needs
+refused-requires-3 : tie.Need-refused-requires-3
+refused-requires-3 c κs = search needs
 
-same-length-2 : tie.Need-same-length-2
-same-length-2 c = search needs
+same-length-3 : tie.Need-same-length-3
+same-length-3 c = search needs
 
-returns-2 : tie.Need-returns-2
-returns-2 c =
+returns-3 : tie.Need-returns-3
+returns-3 c =
     let o = c .before .before .before in
     let clock = o .before .before in
     let n1 = clock .before .before in
     let test = n1 .before .before in
     let load = test .before .before in
     let n = load .before .before .before in
-    let look = n .before .before .before in
-    let head = look .before .before .before in
-    let a = head .before .before .before .before .args in
+    let place = n .before in
+    let count = place .before .before .before in
+    let head = count .before .before in
+    let early = head .before .before in
+    let a = early .before .before .before .before .before .args in
+    let l = now (a .state) in
+    let counted = ap (λ (x : ℕ). x % 256) (count .at .ensures) in
+    let look = look-by l _ (now (a .packet)) _ (early .early-number .ensures) (head .before .if1 .left) _ _ _ counted (place .place-of .ensures) in
     let made = rw (test .at2 .ensures, clock .at4 .ensures) at (o .admit .ensures) in
-    met-late (now (a .state)) (now (a .storage)) (now (a .packet)) _ _ _ _ (head .read-head .ensures) (look .before .of .ensures) (look .look .ensures) (ap (λ (x : ℕ). x % 256) (n .before .at .ensures)) _ (n .packet-number .ensures) (load .before .before .if1 .left) _ (load .load .ensures) _ _ _ (ap (λ (x : ℕ). x % 65536) (n1 .at3 .ensures)) (o .before .sender .ensures) made _ (c .before .before .refusal .ensures) (c .before .if2 .taken) _ (c .refused2 .ensures)
+    met-late l (now (a .storage)) (now (a .packet)) _ _ _ _ (head .read-head .ensures) (place .before .of .ensures) look counted _ (n .packet-number .ensures) (load .before .before .if2 .left) _ (load .load .ensures) _ _ _ (ap (λ (x : ℕ). x % 65536) (n1 .at3 .ensures)) (o .before .sender .ensures) made _ (c .before .before .refusal .ensures) (c .before .if3 .taken) _ (c .refused3 .ensures)
 
 joined-requires : tie.Need-joined-requires
 joined-requires c κs = search needs
@@ -98,41 +122,50 @@ where-to-requires c κs = search needs
 in-numbers-requires : tie.Need-in-numbers-requires
 in-numbers-requires c κs = search needs
 
-same-length-3 : tie.Need-same-length-3
-same-length-3 c = search needs
-
 same-length-4 : tie.Need-same-length-4
 same-length-4 c = search needs
 
-returns-3 : tie.Need-returns-3
-returns-3 c =
+same-length-5 : tie.Need-same-length-5
+same-length-5 c = search needs
+
+returns-4 : tie.Need-returns-4
+returns-4 c =
     let o = c .before .before .before .before .before .before .before .before .before .before .before .before .before .before .before in
     let clock = o .before .before in
     let n1 = clock .before .before in
     let test = n1 .before .before in
     let load = test .before .before in
     let n = load .before .before .before in
-    let look = n .before .before .before in
-    let head = look .before .before .before in
-    let a = head .before .before .before .before .args in
+    let place = n .before in
+    let count = place .before .before .before in
+    let head = count .before .before in
+    let early = head .before .before in
+    let a = early .before .before .before .before .before .args in
+    let l = now (a .state) in
+    let counted = ap (λ (x : ℕ). x % 256) (count .at .ensures) in
+    let look = look-by l _ (now (a .packet)) _ (early .early-number .ensures) (head .before .if1 .left) _ _ _ counted (place .place-of .ensures) in
     let made = rw (test .at2 .ensures, clock .at4 .ensures) at (o .admit .ensures) in
     let put = c .before .before .before .before .before .before .before .before .before in
     let store = c .before .before .before .before .before in
-    met-taken (now (a .state)) (now (a .storage)) (now (a .packet)) _ _ _ _ (head .read-head .ensures) (look .before .of .ensures) (look .look .ensures) (ap (λ (x : ℕ). x % 256) (n .before .at .ensures)) _ (n .packet-number .ensures) (load .before .before .if1 .left) _ (load .load .ensures) _ _ _ (ap (λ (x : ℕ). x % 65536) (n1 .at3 .ensures)) (o .before .sender .ensures) made _ (c .before .before .before .before .before .before .before .before .before .before .before .before .before .before .refusal .ensures) (c .before .before .before .before .before .before .before .before .before .before .before .before .before .if2 .left) _ _ (c .before .where-to .ensures) (store .store .ensures) _ _ (put .before .joined .ensures) (put .put .ensures) _ (c .in-numbers .ensures)
+    met-taken l (now (a .storage)) (now (a .packet)) _ _ _ _ (head .read-head .ensures) (place .before .of .ensures) look counted _ (n .packet-number .ensures) (load .before .before .if2 .left) _ (load .load .ensures) _ _ _ (ap (λ (x : ℕ). x % 65536) (n1 .at3 .ensures)) (o .before .sender .ensures) made _ (c .before .before .before .before .before .before .before .before .before .before .before .before .before .before .refusal .ensures) (c .before .before .before .before .before .before .before .before .before .before .before .before .before .if3 .left) _ _ (c .before .where-to .ensures) (store .store .ensures) _ _ (put .before .joined .ensures) (put .put .ensures) _ (c .in-numbers .ensures)
 
 pub adp-message-spec : {M : Type 1} → statement M
 adp-message-spec =
     tie.close
     (tie.spec
-    read-head-requires
-    of-requires
-    look-requires
-    at-requires
-    cast-count
-    packet-number-requires
+    early-number-requires
     refused-requires
     same-length
     returns
+    read-head-requires
+    at-requires
+    cast-count
+    of-requires
+    place-of-requires
+    packet-number-requires
+    refused-requires-2
+    same-length-2
+    returns-2
     load-requires
     at-requires-2
     at-requires-3
@@ -141,14 +174,14 @@ adp-message-spec =
     sender-requires
     admit-requires
     refusal-requires
-    refused-requires-2
-    same-length-2
-    returns-2
+    refused-requires-3
+    same-length-3
+    returns-3
     joined-requires
     put-requires
     store-requires
     where-to-requires
     in-numbers-requires
-    same-length-3
     same-length-4
-    returns-3)
+    same-length-5
+    returns-4)
