@@ -1,8 +1,8 @@
 -- What the cutter writes has a possible cut, with the place and length that the joiner will compute, and its pieces in
 -- order are the message. Assumes nothing.
 use mathlib.Core.Path.{_≡_, refl, ap, _∙_}
-use mathlib.Core.Logic.{⊎-elim}
-use mathlib.Core.Bool.{true, false, cond, _&&_}
+use mathlib.Core.Logic.{_≢_, ⊎-elim}
+use mathlib.Core.Bool.{true, false, cond, _&&_, and-false}
 use mathlib.Core.List.{List}
 use Prim.Native.Nat.{ℕ, _+_, _-_, _*_, _%_, _≤_, _<_}
 use native.Mathlib.Nat.{mul-le-mul-right, mul-mod-right, mul-div-right, zero-mul}
@@ -10,7 +10,7 @@ use native.Mathlib.Omega.{arith}
 use lib.Dec.{eqb, leb, ltb}
 use lib.ListN.{length, take, drop, length-append}
 use borrow.Author.Tests.{leb-true, eq-eqb, ne-eqb, le-leb, lt-leb, lt-ltb, le-ltb}
-use Rattle.octets.specs.Split.{lt-or-le, both, and-left, and-right}
+use Rattle.octets.specs.Split.{lt-or-le, true-or-false, both, and-left, and-right}
 use Rattle.octets.specs.Run.{run, laid}
 use Rattle.octets.specs.RunLaws.{length-run}
 use Rattle.header.specs.declared.Cut.{Cut}
@@ -51,8 +51,19 @@ within-facts n u c e =
       last = leb-true c (pieces n u) (and-right (a && b && d) f e);
     }
 
-pub limits-piece : (g : Given) (n u c : ℕ) → limitsWithin g n u c ≡ true → pieceWithin n u c ≡ true
-limits-piece g n u c = and-right (givenWithin g) (pieceWithin n u c)
+-- Whatever is within its limits has a piece, so a count of 0 can stand for what is not.
+module _ (n u c t : ℕ) (e : t ≡ cond (pieceWithin n u c) (pieces n u) 0) where
+  pub counted-none : t ≡ 0 → pieceWithin n u c ≡ false
+  counted-none z = ⊎-elim
+      (λ (yes : pieceWithin n u c ≡ true). let w = within-facts n u c yes in absurd (omega (arith, rw yes at e)))
+      (λ no. no)
+      (true-or-false (pieceWithin n u c))
+
+  pub counted-some : t ≢ 0 → (pieceWithin n u c ≡ true) × (t ≡ pieces n u)
+  counted-some some = ⊎-elim
+      (λ (yes : pieceWithin n u c ≡ true). (yes, rw yes at e))
+      (λ (no : pieceWithin n u c ≡ false). absurd (some (rw no at e)))
+      (true-or-false (pieceWithin n u c))
 
 module _ (n u c : ℕ) (w : Within n u c) where
   pos : 1 ≤ u
@@ -77,6 +88,10 @@ length-pdu g m u c w =
     length-append (header (headFor g m u c)) (piece m u c)
     ∙ rw (length-header (headFor g m u c), length-piece m u c w)
 
+-- BSIZE is the PDU's length.
+pub bsize-is : (n u c : ℕ) {k : Cut} → k ≡ cutFor n u c → k .bsize ≡ headerSize + pieceLength n u c
+bsize-is n u c e = omega (arith, ap (λ (k : Cut). k .bsize) e)
+
 -- A header written and the piece laid down behind it are the PDU laid down.
 pub pdu-laid : (g : Given) (m : List ℕ) (u c : ℕ) (b : List ℕ) → Within (length m) u c → headerSize + pieceLength (length m) u c ≤ length b
     → laid (headed b (headFor g m u c)) headerSize (piece m u c) ≡ laid b 0 (pdu g m u c)
@@ -85,28 +100,38 @@ pdu-laid g m u c b w room = headed-laid b (headFor g m u c) (piece m u c) (rw (l
 
 -- The same of what the code has in its locals: the piece is the part of the message between two places.
 pub pdu-written : (g : Given) (m : List ℕ) (u c : ℕ) (b : List ℕ) → Within (length m) u c → headerSize + pieceLength (length m) u c ≤ length b
-    → (start own count : ℕ) {x y : List ℕ} → start ≡ piecePlace u c → own ≡ pieceLength (length m) u c → count ≡ pieces (length m) u
-    → x ≡ headed b (record { given = g; cut = record { ml = length m + headerSize; bsize = own + headerSize; cbn = c; tbn = count } })
+    → (start own : ℕ) {x y : List ℕ} → start ≡ piecePlace u c → own ≡ pieceLength (length m) u c → x ≡ headed b (headFor g m u c)
     → y ≡ laid x headerSize (take (start + own - start) (drop start m)) → y ≡ laid b 0 (pdu g m u c)
 unfolding piece run
-pdu-written g m u c b w room start own count e f k h l =
+pdu-written g m u c b w room start own e f h l =
     let z : start + own - start ≡ own = omega arith in
-    l ∙ rw (h, z, e, f, k) (pdu-laid g m u c b w room)
+    l ∙ rw (h, z, e, f) (pdu-laid g m u c b w room)
 
 -- ---- the answer and the buffer, by the tests
 
 module _ (g : Given) (m : List ℕ) (u c : ℕ) where
-  pub cuts-limits : (room : ℕ) → limitsWithin g (length m) u c ≡ false → cuts g m u c room ≡ false
+  pub refused-piece : (room : ℕ) → pieceWithin (length m) u c ≡ false → cuts g m u c room ≡ false
   unfolding cuts
-  cuts-limits room e = rw e
+  refused-piece room e = rw (e, and-false (givenWithin g))
 
-  pub cuts-short : (room : ℕ) → limitsWithin g (length m) u c ≡ true → room < headerSize + pieceLength (length m) u c → cuts g m u c room ≡ false
+  pub refused-given : (room : ℕ) → givenWithin g ≡ false → cuts g m u c room ≡ false
   unfolding cuts
-  cuts-short room e h = rw (e, lt-leb (headerSize + pieceLength (length m) u c) room h)
+  refused-given room e = rw e
+
+  pub refused-short : (room : ℕ) → room < headerSize + pieceLength (length m) u c → cuts g m u c room ≡ false
+  unfolding cuts
+  refused-short room h = rw (lt-leb (headerSize + pieceLength (length m) u c) room h, and-false (limitsWithin g (length m) u c))
 
   pub cuts-all : (room : ℕ) → limitsWithin g (length m) u c ≡ true → headerSize + pieceLength (length m) u c ≤ room → cuts g m u c room ≡ true
   unfolding cuts
   cuts-all room e h = rw (e, le-leb (headerSize + pieceLength (length m) u c) room h)
+
+  -- The same of what the code has in its locals once every test has passed.
+  pub cuts-tested : (room t : ℕ) (k : Cut) → t ≡ cond (pieceWithin (length m) u c) (pieces (length m) u) 0 → t ≢ 0 → givenWithin g ≡ true
+      → k ≡ cutFor (length m) u c → k .bsize ≤ room → cuts g m u c room ≡ true
+  cuts-tested room t k count some given is fits =
+      let piece = counted-some (length m) u c t count some .0 in
+      cuts-all room (both (givenWithin g) (pieceWithin (length m) u c) given piece) (omega (arith, bsize-is (length m) u c is))
 
   pub cutter-refused : (b : List ℕ) → cuts g m u c (length b) ≡ false → (Refused ≡ cutterAnswer g m u c (length b)) × (b ≡ cutterBuffer g m u c b)
   unfolding cutterAnswer cutterBuffer

@@ -1,10 +1,12 @@
 -- Laws of pieces: there are at most 64, they lie side by side, and in order they are the message. Assumes nothing.
 use mathlib.Core.Path.{_≡_, refl, sym, ap, _∙_}
 use mathlib.Core.Logic.{_⊎_, inl, inr, ⊎-elim}
+use mathlib.Core.Bool.{cond}
 use mathlib.Core.List.{List, _++_}
 use Prim.Native.Nat.{ℕ, zero, suc, _+_, _-_, _*_, _/_, _≤_, _<_, min}
 use native.Mathlib.Nat.{suc-mul, mul-le-mul, mul-le-mul-right, lt-of-le-of-lt, lt-div-mul-add, div-mul-le-self, zero-mul}
 use native.Mathlib.Omega.{arith}
+use lib.Dec.{ltb}
 use lib.ListN.{length, take}
 use lib.Seq.{take-all}
 use borrow.Author.Tests.{le-leb, lt-leb, lt-ltb, le-ltb}
@@ -115,6 +117,11 @@ module _ (n u c : ℕ) (pos : 1 ≤ u) (first : 1 ≤ c) where
   -- and is at most u octets long.
   pub length-most : c ≤ pieces n u → pieceLength n u c ≤ u
   length-most h = omega (arith, piece-end h, times c u first)
+
+-- A piece's length is found by the number of pieces, wherever that was counted.
+pub length-counted : (n u c : ℕ) {t r : ℕ} → t ≡ pieces n u → r ≡ cond (ltb c t) u (n - piecePlace u c) → r ≡ pieceLength n u c
+unfolding pieceLength
+length-counted n u c e f = f ∙ rw e
 
 -- The only piece is the whole message.
 pub length-only : (n u c : ℕ) → 1 ≤ c → c ≤ 1 → pieces n u ≡ 1 → pieceLength n u c ≡ n

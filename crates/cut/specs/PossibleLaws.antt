@@ -1,18 +1,18 @@
 -- A possible cut is one that the rule of cutting gives, and each that it gives is possible. Assumes nothing.
 use mathlib.Core.Path.{_≡_, refl, sym, _∙_}
 use mathlib.Core.Logic.{_≢_, ⊎-elim}
-use mathlib.Core.Bool.{Bool, true, cond, _&&_}
+use mathlib.Core.Bool.{Bool, true, false, cond, _&&_}
 use Prim.Native.Nat.{ℕ, _+_, _-_, _*_, _/_, _%_, _≤_, _<_}
 use native.Mathlib.Nat.{mul-comm, div-add-mod', div-le-self, mul-le-mul-right, zero-mul}
 use native.Mathlib.Omega.{arith}
 use lib.Dec.{eqb, leb, ltb}
 use borrow.Author.Tests.{leb-true, ltb-true, ltb-false, eqb-true, eqb-false, eq-eqb, ne-eqb, le-leb, lt-ltb, le-ltb}
-use Rattle.octets.specs.Split.{lt-or-le, eq-or-ne, cond-case, both, and-left, and-right}
+use Rattle.octets.specs.Split.{lt-or-le, eq-or-ne, cond-case, same-test, both, and-left, and-right}
 use Rattle.header.specs.declared.Cut.{Cut}
 use Rattle.header.specs.Places.{headerSize}
 use Rattle.cut.specs.Pieces.{mostOctets, leastUnit, mostUnit, pieces, piecePlace, pieceLength}
 use Rattle.cut.specs.PiecesLaws.{times, product-below, pieces-one, pieces-two, pieces-cover, pieces-below, pieces-only, pieces-most, length-front, length-last, length-only, piece-end}
-use Rattle.cut.specs.Possible.{messageLength, ownLength, unit, ownPlace, isUnit, frontPossible, lastPossible, severalPossible, possible}
+use Rattle.cut.specs.Possible.{messageLength, ownLength, unit, ownPlace, isUnit, frontPossible, lastPossible, severalPossible, sizesWithin, possible}
 
 -- ---- what a possible cut says
 
@@ -48,6 +48,35 @@ unit-last : (c : Cut) → c .tbn ≢ 1 → c .tbn ≤ c .cbn → unit c ≡ (mes
 unfolding unit
 unit-last c e h = rw (ne-eqb (c .tbn) 1 e, le-ltb (c .cbn) (c .tbn) h)
 
+-- So a piece is judged by the u that its arm names.
+pub judged-by-unit : (c : Cut)
+    → cond (eqb (c .tbn) 1) (eqb (ownLength c) (messageLength c))
+    (cond (ltb (c .cbn) (c .tbn)) (frontPossible (messageLength c) (c .tbn) (ownLength c))
+    (lastPossible (messageLength c) (c .tbn) (ownLength c) ((messageLength c - ownLength c) / (c .tbn - 1))))
+    ≡ cond (eqb (c .tbn) 1) (eqb (ownLength c) (messageLength c))
+    (cond (ltb (c .cbn) (c .tbn)) (frontPossible (messageLength c) (c .tbn) (unit c))
+    (lastPossible (messageLength c) (c .tbn) (ownLength c) (unit c)))
+unfolding unit
+judged-by-unit c = arms (eqb (c .tbn) 1) (ltb (c .cbn) (c .tbn)) _ (frontPossible (messageLength c) (c .tbn)) (lastPossible (messageLength c) (c .tbn) (ownLength c)) _ _ _
+  where
+    arms : (a b x : Bool) (front last : ℕ → Bool) (n p q : ℕ)
+        → cond a x (cond b (front p) (last q)) ≡ cond a x (cond b (front (cond a n (cond b p q))) (last (cond a n (cond b p q))))
+    arms true b x front last n p q = refl
+    arms false true x front last n p q = refl
+    arms false false x front last n p q = refl
+
+-- Limits of a piece, as two facts.
+pub unit-within : (u : ℕ) → isUnit u ≡ true → (leastUnit ≤ u) × (u ≤ mostUnit)
+unit-within u e = (leb-true leastUnit u (and-left (leb leastUnit u) (leb u mostUnit) e), leb-true u mostUnit (and-right (leb leastUnit u) (leb u mostUnit) e))
+
+-- A message ends within piece t where what is left of it behind the pieces before is at most a piece.
+pub ends-within : (n t u : ℕ) → 1 ≤ t → leb n (t * u) ≡ leb (n - (t - 1) * u) u
+ends-within n t u h =
+    let e = times t u h in
+    same-test (leb n (t * u)) (leb (n - (t - 1) * u) u)
+    (λ f. le-leb (n - (t - 1) * u) u (omega (arith, leb-true n (t * u) f)))
+    (λ f. le-leb n (t * u) (omega (arith, leb-true (n - (t - 1) * u) u f)))
+
 cut-one : (n t u c p : ℕ) → t ≡ 1 → u ≡ n → 1 ≤ c → c ≤ t → p ≡ n → IsCut n t u c p
 cut-one n t u c p e whole low high f =
     let one : pieces n u ≡ 1 = pieces-one n u (omega arith) in
@@ -80,6 +109,12 @@ module _ (n t u c p : ℕ) (low : 1 ≤ c) (high : c ≤ t) (two : 2 ≤ t) wher
         start = omega arith;
       }
 
+-- Neither n nor p is negative, and n is not too long.
+pub record Sizes (c : Cut) : Type 0 where
+  pub room : headerSize ≤ c .ml
+  pub big : messageLength c ≤ mostOctets
+  pub own-room : headerSize ≤ c .bsize
+
 -- The facts of a possible cut.
 pub record Possible (c : Cut) : Type 0 where
   pub room : headerSize ≤ c .ml
@@ -106,9 +141,6 @@ module _ (c : Cut) (low : 1 ≤ c .cbn) (high : c .cbn ≤ c .tbn) where
   abbrev Is : Type 0
   Is = (t ≢ 1 → (leastUnit ≤ u) × (u ≤ mostUnit)) × IsCut n t u (c .cbn) p
 
-  wide-of : isUnit u ≡ true → (leastUnit ≤ u) × (u ≤ mostUnit)
-  wide-of e = (leb-true leastUnit u (and-left (leb leastUnit u) (leb u mostUnit) e), leb-true u mostUnit (and-right (leb leastUnit u) (leb u mostUnit) e))
-
   if-one : t ≡ 1 → eqb p n ≡ true → Is
   unfolding n t u p
   if-one e f =
@@ -118,7 +150,7 @@ module _ (c : Cut) (low : 1 ≤ c .cbn) (high : c .cbn ≤ c .tbn) where
   unfolding n t u p frontPossible
   if-front e h f =
       let a = and-left (isUnit u && ltb ((t - 1) * u) n) (leb n (t * u)) f in
-      let w = wide-of (and-left (isUnit u) (ltb ((t - 1) * u) n) a) in
+      let w = unit-within u (and-left (isUnit u) (ltb ((t - 1) * u) n) a) in
       let b = ltb-true ((t - 1) * u) n (and-right (isUnit u) (ltb ((t - 1) * u) n) a) in
       let d = leb-true n (t * u) (and-right (isUnit u && ltb ((t - 1) * u) n) (leb n (t * u)) f) in
       ((λ _. w), cut-front n t u (c .cbn) p low high (omega arith) h (unit-front c e h) (w .0) b d)
@@ -133,7 +165,7 @@ module _ (c : Cut) (low : 1 ≤ c .cbn) (high : c .cbn ≤ c .tbn) where
       let a = and-left (r && s && w && v) (leb p u) f in
       let b = and-left (r && s && w) v a in
       let d = and-left (r && s) w b in
-      let x = wide-of (and-right (r && s) w b) in
+      let x = unit-within u (and-right (r && s) w b) in
       let two : 2 ≤ t = several (omega arith) e in (
         (λ _. x),
         cut-last n t u (c .cbn) p low high two (omega arith) (ltb-true p n (and-left r s d)) (eqb-true ((n - p) % (t - 1)) 0 (and-right r s d))
@@ -150,27 +182,36 @@ module _ (c : Cut) (low : 1 ≤ c .cbn) (high : c .cbn ≤ c .tbn) where
       (λ h. if-front (eqb-false t 1 e) (ltb-true (c .cbn) t h))
       (λ h. if-last (eqb-false t 1 e) (ltb-false (c .cbn) t h)))
 
+pub sizes-facts : (c : Cut) → sizesWithin c ≡ true → Sizes c
+sizes-facts c e =
+    let a = leb headerSize (c .ml) in
+    let b = leb (messageLength c) mostOctets in
+    let d = leb headerSize (c .bsize) in
+    let e2 = and-left (a && b) d e in
+    record {
+      room = leb-true headerSize (c .ml) (and-left a b e2);
+      big = leb-true (messageLength c) mostOctets (and-right a b e2);
+      own-room = leb-true headerSize (c .bsize) (and-right (a && b) d e);
+    }
+
 pub possible-facts : (c : Cut) → possible c ≡ true → Possible c
 unfolding possible n t u p
 possible-facts c e =
-    let a1 = leb headerSize (c .ml) in
-    let a2 = leb (messageLength c) mostOctets in
-    let a3 = leb headerSize (c .bsize) in
-    let a4 = leb 1 (c .cbn) in
-    let a5 = leb (c .cbn) (c .tbn) in
+    let a = sizesWithin c in
+    let b = leb 1 (c .cbn) in
+    let d = leb (c .cbn) (c .tbn) in
     let rest = cond (eqb (c .tbn) 1) (eqb (ownLength c) (messageLength c))
     (cond (ltb (c .cbn) (c .tbn)) (frontPossible (messageLength c) (c .tbn) (unit c)) (lastPossible (messageLength c) (c .tbn) (ownLength c) (unit c))) in
-    let e5 = and-left (a1 && a2 && a3 && a4 && a5) rest e in
-    let e4 = and-left (a1 && a2 && a3 && a4) a5 e5 in
-    let e3 = and-left (a1 && a2 && a3) a4 e4 in
-    let e2 = and-left (a1 && a2) a3 e3 in
-    let low = leb-true 1 (c .cbn) (and-right (a1 && a2 && a3) a4 e4) in
-    let high = leb-true (c .cbn) (c .tbn) (and-right (a1 && a2 && a3 && a4) a5 e5) in
-    let is = is-cut c low high (and-right (a1 && a2 && a3 && a4 && a5) rest e) in
+    let e3 = and-left (a && b && d) rest e in
+    let e2 = and-left (a && b) d e3 in
+    let sizes = sizes-facts c (and-left a b e2) in
+    let low = leb-true 1 (c .cbn) (and-right a b e2) in
+    let high = leb-true (c .cbn) (c .tbn) (and-right (a && b) d e3) in
+    let is = is-cut c low high (and-right (a && b && d) rest e) in
     record {
-      room = leb-true headerSize (c .ml) (and-left a1 a2 e2);
-      big = leb-true (messageLength c) mostOctets (and-right a1 a2 e2);
-      own-room = leb-true headerSize (c .bsize) (and-right (a1 && a2) a3 e3);
+      room = sizes .room;
+      big = sizes .big;
+      own-room = sizes .own-room;
       one = low;
       top = high;
       wide = is .0;
@@ -219,12 +260,12 @@ several-facts n t u e =
     let x = and-left (ltb 1 t && leb n mostOctets) front e in
     let y = and-right (ltb 1 t && leb n mostOctets) front e in
     let z = and-left (isUnit u && ltb ((t - 1) * u) n) (leb n (t * u)) y in
-    let w = and-left (isUnit u) (ltb ((t - 1) * u) n) z in
+    let w = unit-within u (and-left (isUnit u) (ltb ((t - 1) * u) n) z) in
     record {
       two = ltb-true 1 t (and-left (ltb 1 t) (leb n mostOctets) x);
       big = leb-true n mostOctets (and-right (ltb 1 t) (leb n mostOctets) x);
-      low = leb-true leastUnit u (and-left (leb leastUnit u) (leb u mostUnit) w);
-      high = leb-true u mostUnit (and-right (leb leastUnit u) (leb u mostUnit) w);
+      low = w .0;
+      high = w .1;
       below = ltb-true ((t - 1) * u) n (and-right (isUnit u) (ltb ((t - 1) * u) n) z);
       cover = leb-true n (t * u) (and-right (isUnit u && ltb ((t - 1) * u) n) (leb n (t * u)) y);
     }

@@ -2,15 +2,13 @@
 //
 // Every public function is total. Lengths are in octets, and pieces are counted from 1.
 ghost use mathlib.Core.Path.{_≡_};
-ghost use mathlib.Core.Bool.{true};
-ghost use Prim.Native.Nat.{_+_, _≤_};
+ghost use mathlib.Core.Bool.{true, cond};
 ghost use lib.ListN.{length};
 ghost use Rattle.octets.specs.Run.{laid};
-ghost use Rattle.header.specs.Places.{headerSize};
-ghost use Rattle.cut.specs.Pieces.{pieceLength};
-ghost use Rattle.cut.specs.Cutter.{pdu, givenWithin, pieceWithin, limitsWithin, cutterAnswer, cutterBuffer, cutterTold};
+ghost use Rattle.cut.specs.Pieces.{pieces as piecesOf};
+ghost use Rattle.cut.specs.Cutter.{cutFor, pdu, givenWithin, pieceWithin, cuts, cutterAnswer, cutterBuffer, cutterTold};
 use crate::pieces::MOST_OCTETS;
-use crate::pieces::piece_length;
+use crate::pieces::length_among;
 use crate::pieces::piece_place;
 use crate::pieces::pieces;
 use crate::possible::is_unit;
@@ -52,25 +50,43 @@ impl Cutting {
     }
 }
 
+// All refusals have one number, so the tests are made in the order of what they cost, up to the first that fails; the
+// pieces are counted once. The buffer is written when nothing is left to refuse.
 pub fn cutter(given: Given, message: &[u8], u: u16, piece: u8, buffer: &mut [u8]) -> Cutting
     ensures answer { λ r. ⌜ r ≡ cutterAnswer given (now (message .entry)) u piece (length (now (buffer .entry))) ⌝ }
     ensures written { λ _. ⌜ now (buffer .exit) ≡ cutterBuffer given (now (message .entry)) u piece (now (buffer .entry)) ⌝ }
 {
-    if !limits_within(given, message.len(), u, piece) {
+    let n = message.len();
+    let t = counted(n, u, piece);
+    if t == 0 {
         return Cutting::Refused;
     }
-    let own = piece_length(message.len(), u, piece);
-    if buffer.len() < SIZE + own {
+    if !given_within(given) {
         return Cutting::Refused;
     }
-    write_pdu(given, message, u, piece, buffer);
-    Cutting::Written((SIZE + own) as u16)
+    let cut = cut_for(n, u, piece, t);
+    if buffer.len() < cut.bsize as usize {
+        return Cutting::Refused;
+    }
+    write_pdu(given, message, u, piece, cut, buffer);
+    Cutting::Written(cut.bsize)
 }
 
-fn limits_within(g: Given, n: usize, u: u16, c: u8) -> bool
-    ensures { λ r. ⌜ r ≡ limitsWithin g n u c ⌝ }
+// The number of pieces, or 0 where n, u or the piece number is outside its limits.
+fn counted(n: usize, u: u16, c: u8) -> usize
+    ensures { λ r. ⌜ r ≡ cond (pieceWithin n u c) (piecesOf n u) 0 ⌝ }
 {
-    given_within(g) & piece_within(n, u, c)
+    if MOST_OCTETS < n {
+        return 0;
+    }
+    if !is_unit(u as u32) {
+        return 0;
+    }
+    if c < 1 {
+        return 0;
+    }
+    let t = pieces(n, u);
+    if t < c as usize { 0 } else { t }
 }
 
 fn given_within(g: Given) -> bool
@@ -79,33 +95,45 @@ fn given_within(g: Given) -> bool
     let field = g.field;
     let node = g.node;
     let number = g.number;
-    field.within()
-        & node.within()
-        & number.within()
-        & code_of(g.tcd).is_user()
-        & is_mode(g.mode)
-        & is_pri(g.pri)
+    if !field.within() {
+        return false;
+    }
+    if !node.within() {
+        return false;
+    }
+    if !number.within() {
+        return false;
+    }
+    if !code_of(g.tcd).is_user() {
+        return false;
+    }
+    if !is_mode(g.mode) {
+        return false;
+    }
+    is_pri(g.pri)
 }
 
-fn piece_within(n: usize, u: u16, c: u8) -> bool
-    ensures { λ r. ⌜ r ≡ pieceWithin n u c ⌝ }
+// What the header says of piece c of t.
+fn cut_for(n: usize, u: u16, c: u8, t: usize) -> Cut
+    requires { ⌜ (pieceWithin n u c ≡ true) × (t ≡ piecesOf n u) ⌝ }
+    ensures { λ r. ⌜ r ≡ cutFor n u c ⌝ }
 {
-    (n <= MOST_OCTETS) & is_unit(u as u32) & (1 <= c) & (c as usize <= pieces(n, u))
-}
-
-fn write_pdu(given: Given, message: &[u8], u: u16, piece: u8, buffer: &mut [u8])
-    requires { ⌜ (pieceWithin (length (now message)) u piece ≡ true) × (headerSize + pieceLength (length (now message)) u piece ≤ length (now buffer)) ⌝ }
-    ensures { λ _. ⌜ now (buffer .exit) ≡ laid (now (buffer .entry)) 0 (pdu given (now (message .entry)) u piece) ⌝ }
-{
-    let n = message.len();
-    let start = piece_place(u, piece);
-    let own = piece_length(n, u, piece);
-    let cut = Cut {
+    let own = length_among(n, u, c, t);
+    Cut {
         ml: (n + SIZE) as u32,
         bsize: (own + SIZE) as u16,
-        cbn: piece,
-        tbn: pieces(n, u) as u8,
-    };
+        cbn: c,
+        tbn: t as u8,
+    }
+}
+
+// The header, then the piece behind it.
+fn write_pdu(given: Given, message: &[u8], u: u16, piece: u8, cut: Cut, buffer: &mut [u8])
+    requires { ⌜ (cuts given (now message) u piece (length (now buffer)) ≡ true) × (cut ≡ cutFor (length (now message)) u piece) ⌝ }
+    ensures { λ _. ⌜ now (buffer .exit) ≡ laid (now (buffer .entry)) 0 (pdu given (now (message .entry)) u piece) ⌝ }
+{
+    let start = piece_place(u, piece);
+    let own = cut.bsize as usize - SIZE;
     write_head(buffer, Head { given, cut });
     lay(buffer, SIZE, &message[start..start + own]);
 }

@@ -1,5 +1,8 @@
 // How many pieces a message of n octets has at u octets a piece, and the length and place of each.
 ghost use mathlib.Core.Path.{_≡_};
+ghost use mathlib.Core.Bool.{cond};
+ghost use Prim.Native.Nat.{_-_};
+ghost use lib.Dec.{ltb};
 ghost use Rattle.cut.specs.Pieces.{pieces as piecesOf, pieceLength, piecePlace};
 
 // The most octets of a message.
@@ -38,7 +41,14 @@ pub fn piece_place(u: u16, c: u8) -> usize
 pub fn piece_length(n: usize, u: u16, c: u8) -> usize
     ensures { λ r. ⌜ r ≡ pieceLength n u c ⌝ }
 {
-    if (c as usize) < pieces(n, u) {
+    length_among(n, u, c, pieces(n, u))
+}
+
+// The same of a message that has t pieces, so that whoever needs their number too counts them once.
+pub fn length_among(n: usize, u: u16, c: u8, t: usize) -> usize
+    ensures { λ r. ⌜ r ≡ cond (ltb c t) u (n - piecePlace u c) ⌝ }
+{
+    if (c as usize) < t {
         return u as usize;
     }
     let start = piece_place(u, c);

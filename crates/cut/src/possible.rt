@@ -1,6 +1,8 @@
 // Whether a PDU's cut is possible, and what it says of the piece: by ML, BSIZE, CBN and TBN alone.
 ghost use mathlib.Core.Path.{_≡_};
+ghost use mathlib.Core.Bool.{cond};
 ghost use Prim.Native.Nat.{_-_, _/_, _≤_};
+ghost use lib.Dec.{eqb, ltb};
 ghost use Rattle.cut.specs.Possible.{messageLength, ownLength, unit as unitOf, ownPlace, sizesWithin, isUnit, severalPossible, frontPossible, lastPossible, possible as isPossible};
 use crate::pieces::LEAST_UNIT;
 use crate::pieces::MOST_OCTETS;
@@ -78,24 +80,35 @@ pub fn possible(c: Cut) -> bool
     if c.tbn < c.cbn {
         return false;
     }
-    let n = message_length(c);
-    let p = own_length(c);
-    if c.tbn == 1 {
-        return p == n;
-    }
-    let u = unit(c);
-    if c.cbn < c.tbn {
-        front_possible(n, c.tbn, u)
-    } else {
-        last_possible(n, c.tbn, p, u)
-    }
+    piece_possible(c.ml - HEADER, c.bsize as u32 - HEADER, c.cbn, c.tbn)
 }
 
 // Neither n nor p is negative, and n is at most 16,384.
 fn sizes_within(c: Cut) -> bool
     ensures { λ r. ⌜ r ≡ sizesWithin c ⌝ }
 {
-    (HEADER <= c.ml) & (message_length(c) <= MOST) & (HEADER <= c.bsize as u32)
+    if c.ml < HEADER {
+        return false;
+    }
+    if MOST < message_length(c) {
+        return false;
+    }
+    HEADER <= c.bsize as u32
+}
+
+// Whether piece c of t, from 1, can have p octets of a message's n.
+fn piece_possible(n: u32, p: u32, c: u8, t: u8) -> bool
+    requires { ⌜ (1 ≤ c) × (c ≤ t) ⌝ }
+    ensures { λ r. ⌜ r ≡ cond (eqb t 1) (eqb p n) (cond (ltb c t) (frontPossible n t p) (lastPossible n t p ((n - p) / (t - 1)))) ⌝ }
+{
+    if t == 1 {
+        return p == n;
+    }
+    if c < t {
+        front_possible(n, t, p)
+    } else {
+        last_possible(n, t, p)
+    }
 }
 
 // Whether a message of n octets can be cut into t pieces of u, t more than one.
@@ -105,7 +118,10 @@ pub fn several(n: u32, t: u8, u: u32) -> bool
     if t <= 1 {
         return false;
     }
-    (n <= MOST) & front_possible(n, t, u)
+    if MOST < n {
+        return false;
+    }
+    front_possible(n, t, u)
 }
 
 // Whether pieces may have u octets.
@@ -115,21 +131,40 @@ pub fn is_unit(u: u32) -> bool
     (LEAST_UNIT <= u) & (u <= MOST_UNIT)
 }
 
-// A piece before the last.
+// A piece before the last. What stands before the last piece is multiplied once.
 fn front_possible(n: u32, t: u8, u: u32) -> bool
     requires { ⌜ 1 ≤ t ⌝ }
     ensures { λ r. ⌜ r ≡ frontPossible n t u ⌝ }
 {
-    is_unit(u) & (((t - 1) as u64) * (u as u64) < n as u64) & (n as u64 <= (t as u64) * (u as u64))
+    if !is_unit(u) {
+        return false;
+    }
+    let before = (t - 1) as u32 * u;
+    if n <= before {
+        return false;
+    }
+    n - before <= u
 }
 
-// The last piece of several.
-fn last_possible(n: u32, t: u8, p: u32, u: u32) -> bool
+// The last piece of several: what stands before it is divided once.
+fn last_possible(n: u32, t: u8, p: u32) -> bool
     requires { ⌜ 2 ≤ t ⌝ }
-    ensures { λ r. ⌜ r ≡ lastPossible n t p u ⌝ }
+    ensures { λ r. ⌜ r ≡ lastPossible n t p ((n - p) / (t - 1)) ⌝ }
 {
     if n <= p {
         return false;
     }
-    ((n - p) % ((t - 1) as u32) == 0) & is_unit(u) & (1 <= p) & (p <= u)
+    if p < 1 {
+        return false;
+    }
+    let before = n - p;
+    let others = (t - 1) as u32;
+    let u = before / others;
+    if u < p {
+        return false;
+    }
+    if !is_unit(u) {
+        return false;
+    }
+    before % others == 0
 }
