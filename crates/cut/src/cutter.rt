@@ -50,8 +50,8 @@ impl Cutting {
     }
 }
 
-// All refusals have one number, so the tests are made in the order of what they cost, up to the first that fails; the
-// pieces are counted once. The buffer is written when nothing is left to refuse.
+// All refusals have one number, so what costs least is tried first; the pieces are counted once. The buffer is written
+// when nothing is left to refuse.
 pub fn cutter(given: Given, message: &[u8], u: u16, piece: u8, buffer: &mut [u8]) -> Cutting
     ensures answer { λ r. ⌜ r ≡ cutterAnswer given (now (message .entry)) u piece (length (now (buffer .entry))) ⌝ }
     ensures written { λ _. ⌜ now (buffer .exit) ≡ cutterBuffer given (now (message .entry)) u piece (now (buffer .entry)) ⌝ }
@@ -72,17 +72,12 @@ pub fn cutter(given: Given, message: &[u8], u: u16, piece: u8, buffer: &mut [u8]
     Cutting::Written(cut.bsize)
 }
 
-// The number of pieces, or 0 where n, u or the piece number is outside its limits.
+// The number of pieces, or 0 where n, u or the piece number is outside its limits. None is counted before n and u are
+// known to be within theirs: that takes a division.
 fn counted(n: usize, u: u16, c: u8) -> usize
     ensures { λ r. ⌜ r ≡ cond (pieceWithin n u c) (piecesOf n u) 0 ⌝ }
 {
-    if MOST_OCTETS < n {
-        return 0;
-    }
-    if !is_unit(u as u32) {
-        return 0;
-    }
-    if c < 1 {
+    if !((n <= MOST_OCTETS) & is_unit(u as u32) & (1 <= c)) {
         return 0;
     }
     let t = pieces(n, u);
@@ -95,22 +90,12 @@ fn given_within(g: Given) -> bool
     let field = g.field;
     let node = g.node;
     let number = g.number;
-    if !field.within() {
-        return false;
-    }
-    if !node.within() {
-        return false;
-    }
-    if !number.within() {
-        return false;
-    }
-    if !code_of(g.tcd).is_user() {
-        return false;
-    }
-    if !is_mode(g.mode) {
-        return false;
-    }
-    is_pri(g.pri)
+    field.within()
+        & node.within()
+        & number.within()
+        & code_of(g.tcd).is_user()
+        & is_mode(g.mode)
+        & is_pri(g.pri)
 }
 
 // What the header says of piece c of t.
