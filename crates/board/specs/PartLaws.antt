@@ -1,27 +1,24 @@
 -- Where the delivered octets lie, in numbers, is the part that `part` hands over, within what was lent. Assumes nothing.
-use Prim.Native.Nat.{ℕ, _+_, _-_, _*_, _≤_, _<_}
-use mathlib.Core.Path.{_≡_, refl, sym, ap, _∙_}
+use Prim.Native.Nat.{ℕ, _+_, _-_, _*_, _≤_}
+use mathlib.Core.Path.{_≡_, refl, sym}
 use mathlib.Core.Logic.{_≢_, ⊎-elim}
-use mathlib.Core.Bool.{Bool, true, false, cond}
 use mathlib.Core.List.{List, []}
 use native.Mathlib.Omega.{arith}
-use lib.Dec.{eqb, leb}
-use lib.ListN.{length, take, drop, length-drop}
+use lib.Dec.{eqb}
+use lib.ListN.{length, drop, length-drop}
 use lib.Seq.{take-all}
 use borrow.Author.Tests.{eq-eqb, ne-eqb, le-leb}
 use Rattle.octets.specs.Run.{run}
 use Rattle.octets.specs.RunLaws.{length-laid}
-use Rattle.octets.specs.Split.{eq-or-ne, true-or-false, cond-case}
+use Rattle.octets.specs.Split.{eq-or-ne, cond-case}
 use Rattle.header.specs.declared.Head.{Head}
 use Rattle.header.specs.Head.{headOf}
 use Rattle.header.specs.Places.{headerSize}
-use Rattle.cut.specs.Pieces.{mostOctets}
 use Rattle.cut.specs.Possible.{messageLength}
 use Rattle.cut.specs.PossibleLaws.{possible-facts}
 use Rattle.state.specs.declared.Receiver.{Receiver}
 use Rattle.state.specs.State.{senderAt}
 use Rattle.state.specs.Table.{found}
-use Rattle.answers.specs.declared.Answer.{Answer}
 use Rattle.answers.specs.declared.Outcome.{Outcome}
 use Rattle.answers.specs.declared.Outcome.the-variants.{Refused, Stored, Delivered}
 use Rattle.answers.specs.declared.Where.{Where}

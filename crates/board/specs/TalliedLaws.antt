@@ -9,7 +9,6 @@ use lib.Dec.{leb}
 use lib.ListN.{length, set}
 use borrow.Author.Tests.{le-leb, lt-leb}
 use Rattle.octets.specs.Split.{true-or-false}
-use Rattle.tally.specs.declared.Tally.{Tally}
 use Rattle.answers.specs.declared.Outcome.{Outcome}
 use Rattle.answers.specs.declared.Outcome.the-variants.{Refused, Stored, Delivered}
 use Rattle.answers.specs.Told.{outcomeTold, outcomeRefused, OutcomeTells}

@@ -17,7 +17,6 @@ use Rattle.signal.specs.AlivePlaces.{alivePlace}
 use Rattle.signal.specs.AlivePlaces.AliveField.{alTmOut}
 use Rattle.state.specs.declared.Address.{Address}
 use Rattle.state.specs.declared.Look.{Look}
-use Rattle.state.specs.declared.Sender.{Sender}
 use Rattle.state.specs.State.{senderAt, noHeard, withHeard}
 use Rattle.state.specs.Table.{source}
 use Rattle.answers.specs.declared.Noted.{Noted}

@@ -2,7 +2,7 @@
 use Prim.Native.Nat.{ℕ, zero, suc, _+_, _-_, _^_, _≤_, _<_}
 use mathlib.Core.Path.{_≡_, refl, sym, ap, subst, _∙_}
 use mathlib.Core.Logic.{⊎-elim}
-use mathlib.Core.Bool.{Bool, true, false, cond, _&&_, _||_}
+use mathlib.Core.Bool.{Bool, true, false, cond, _||_}
 use mathlib.Core.List.{List}
 use native.Mathlib.Nat.{add-zero}
 use native.Mathlib.Numerals.{add-one}
@@ -11,7 +11,7 @@ use lib.Dec.{ltb}
 use lib.ListN.{getD, set, drop}
 use lib.Pow.{pow-mono}
 use Rattle.octets.specs.Run.{laid}
-use Rattle.octets.specs.Split.{true-or-false, never-both, cond-case, both}
+use Rattle.octets.specs.Split.{true-or-false}
 use Rattle.map.specs.Map.{holds, marked}
 use Rattle.map.specs.MapLaws.{bit-above, marked-adds}
 use Rattle.state.specs.declared.Receiver.{Receiver}
@@ -24,11 +24,11 @@ use Rattle.rules.specs.calls.Clock as clock
 use Rattle.rules.specs.calls.ClockLaws.{map-below, clock-nine, clock-back, clock-on, map-again, state-more}
 use Rattle.rules.specs.calls.Message.{withSender}
 use Rattle.words.specs.declared.Record.{Record}
-use Rattle.words.specs.Words.{place, word, recordWords, recordAt, addressIn, senderOf, fits, sendersIn, isState, stateIn, leftBy}
+use Rattle.words.specs.Words.{place, word, recordWords, recordAt, senderOf, fits, sendersIn, isState, stateIn, leftBy}
 use Rattle.words.specs.StateLaws.{IsState, state-facts, sender-in, fit-each}
 use Rattle.words.specs.WrittenLaws.{Means, means-same, means-by, left-same, left-is, clock-is-state, clock-state, clock-beyond, put-state, put-is-state, put-beyond}
-use Rattle.words_look.specs.Look.{lookIn}
-use Rattle.words_look.specs.LookLaws.{Held, look-tells}
+use Rattle.words_look.specs.Look.{isHeld}
+use Rattle.words_look.specs.LookLaws.{Held, nine-by}
 use Rattle.board.specs.declared.Ticked.{Ticked}
 use Rattle.board.specs.Calls.{notTicked, tickedOf, clockFor}
 use Rattle.board_clock.specs.private.Aged.{agedBy}
@@ -45,16 +45,11 @@ met-by l ms is a e r left told same = (rw (is, sym e) told, rw (sym e) same)
 
 module _ (l : List ℕ) (ms : ℕ) where
   -- Words that are no state within its limits.
-  pub met-nine : lookIn l (addressIn 0) .valid ≡ false → (r : Ticked) → r ≡ notTicked 9 → Met l ms r l
+  pub met-nine : isHeld l ≡ false → (r : Ticked) → r ≡ notTicked 9 → Met l ms r l
   unfolding clockFor leftBy clock.notTicked
-  met-nine e r told = ⊎-elim
-      (λ (is : isState l ≡ true). ⊎-elim
-      (λ (ok : valid (stateIn l) ≡ true). absurd (never-both (look-tells l (addressIn 0) ∙ both (isState l) (valid (stateIn l)) is ok) e))
-      (λ (not-so : valid (stateIn l) ≡ false).
-      met-by l ms is (clock.notTicked (stateIn l) 9) (clock-nine (stateIn l) ms not-so) r l told (unfold leftBy in left-same l))
-      (true-or-false (valid (stateIn l))))
-      (λ (not-so : isState l ≡ false). (rw not-so told, rw not-so))
-      (true-or-false (isState l))
+  met-nine e r told = nine-by l (Met l ms r l) e
+      (λ no. (rw no told, rw no))
+      (λ is no. met-by l ms is (clock.notTicked (stateIn l) 9) (clock-nine (stateIn l) ms no) r l told (unfold leftBy in left-same l))
 
   module _ (h : Held l) where
     abbrev w : Receiver

@@ -1,46 +1,44 @@
 -- The message call on words: what was refused leaves them as they are, and what was admitted leaves the words of the
 -- state that the call by value leaves. Assumes nothing.
-use Prim.Native.Nat.{ℕ, _%_, _≤_, _<_}
+use Prim.Native.Nat.{ℕ, _%_, _<_}
 use mathlib.Core.Path.{_≡_, refl, sym, ap, subst, _∙_}
 use mathlib.Core.Logic.{_≢_, ⊎-elim}
-use mathlib.Core.Bool.{Bool, true, false, not, cond, _&&_}
+use mathlib.Core.Bool.{true, false, not, _&&_}
 use mathlib.Core.List.{List, [], _∷_, _++_}
 use native.Mathlib.Omega.{arith}
-use lib.Dec.{eqb, leb}
+use lib.Dec.{leb}
 use lib.ListN.{length}
-use borrow.Author.Tests.{leb-true, ne-eqb, not-false}
+use borrow.Author.Tests.{ne-eqb, not-false}
 use Rattle.octets.specs.Run.{laid}
-use Rattle.octets.specs.Split.{eq-or-ne, true-or-false, never-both, cond-case, both, and-left, and-right}
+use Rattle.octets.specs.Split.{eq-or-ne, true-or-false, cond-case, and-left, and-right}
 use Rattle.header.specs.declared.Head.{Head}
 use Rattle.ring.specs.Ring.{isNumber}
 use Rattle.header.specs.Codes.{isUser, isMode, isPri}
 use Rattle.header.specs.Head.{headOf, isFixed}
 use Rattle.state.specs.declared.Address.{Address}
 use Rattle.state.specs.declared.Look.{Look}
-use Rattle.state.specs.declared.Receiver.{Receiver}
 use Rattle.state.specs.declared.Sender.{Sender}
-use Rattle.state.specs.Limits.{senderWithin, settingsOf, valid, clockMost, isN1, isDropTime}
-use Rattle.state.specs.State.{sendersMost, senderAt}
-use Rattle.state.specs.Table.{source, lookAt}
-use Rattle.state.specs.TableLaws.{look-valid}
-use Rattle.state.specs.WithinLaws.{SenderWithin, valid-settings, valid-sender, sender-of}
+use Rattle.state.specs.Limits.{valid}
+use Rattle.state.specs.State.{senderAt}
+use Rattle.state.specs.Table.{source}
+use Rattle.state.specs.WithinLaws.{SenderWithin}
 use Rattle.answers.specs.declared.Admission.{Admission}
 use Rattle.answers.specs.declared.Answer.{Answer}
 use Rattle.answers.specs.declared.Where.{Where}
 use Rattle.answers.specs.Told.{refusedNumber}
-use Rattle.rules.specs.calls.Admit.{senderRows, senderAfter, admitted, notAdmitted, admission, closed, opened, messageOf, mapAfter, lastBy, verdictOf, fills}
+use Rattle.rules.specs.calls.Admit.{senderRows, senderAfter, admitted, admission, messageOf, mapAfter, lastBy, verdictOf, fills}
 use Rattle.rules.specs.calls.AdmitLaws.{Admitted, admitted-facts, admission-number, admission-yes}
 use Rattle.rules.specs.calls.AdmitValidLaws.{after-stays}
 use Rattle.rules.specs.calls.Alike.{seen}
 use Rattle.rules.specs.calls.First.{row, first}
 use Rattle.rules.specs.calls.FirstLaws.{numbered, first-here, first-none, first-append}
-use Rattle.rules.specs.calls.Message.{headWithin, packetRows, messageAnswer, messageStorage, refused, whereBy, storageAfter, withSender, answerOf}
-use Rattle.rules.specs.calls.MessageLaws.{Passed, passed-facts, Answered, pass-refused, pass-late, pass-admitted, pass-taken}
+use Rattle.rules.specs.calls.Message.{headWithin, packetRows, messageAnswer, refused, whereBy, storageAfter, withSender, answerOf}
+use Rattle.rules.specs.calls.MessageLaws.{Passed, passed-facts, Answered, pass-refused, pass-late, pass-taken}
 use Rattle.rules.specs.calls.SeenLaws.{looks-rows, looks-outcome, looks-held, looks-dropped, changes-after}
 use Rattle.words.specs.declared.Record.{Record}
-use Rattle.words.specs.Words.{place, word, addressIn, recordWords, recordAt, senderOf, shown, joinedBy, fits, isState, stateIn, written, leftBy}
+use Rattle.words.specs.Words.{place, word, recordWords, recordAt, senderOf, shown, joinedBy, isState, stateIn, leftBy}
 use Rattle.words.specs.StateLaws.{state-facts}
-use Rattle.words_look.specs.Look.{outside, lookIn, placeIn}
+use Rattle.words_look.specs.Look.{isHeld, lookIn, placeIn}
 use Rattle.words_look.specs.LookLaws.{Held, held-by, look-tells, look-held}
 use Rattle.words_look.specs.HeldLaws.{look-in, look-out, look-so, count-octet, n1-octets, place-few, sender-here, sender-ok, own-fits, loaded-seen}
 use Rattle.words.specs.WrittenLaws.{left-same, put-written, put-state, put-is-state, Means, means-same, means-by}
@@ -228,7 +226,7 @@ early-all l room packet n e ne a i =
     let rows = earlyRows l room packet in
     let behind = row 13 (not (headWithin packet (headOf packet))) ∷ row 14 (leb (word l 4 % 256) i) ∷ [] in
     let all : first (rows ++ behind) ≡ n = first-append rows behind refl ∙ rw (sym e, ne-eqb n 0 ne) in
-    rw (look-tells l a, sym (look-tells l (addressIn 0))) (sym all)
+    rw (look-tells l a) (sym all)
 
 pub met-first : (l storage packet : List ℕ) (n : ℕ) → n ≡ first (earlyRows l (length storage) packet) → (n ≡ 0 → ⊥)
     → (t : Told) → t ≡ refusedWith n → Met l storage packet t l storage
@@ -241,8 +239,7 @@ met-first l storage packet n e ne t et =
 pub look-by : (l : List ℕ) (room : ℕ) (packet : List ℕ) (n : ℕ) → n ≡ first (earlyRows l room packet) → n ≡ 0
     → (a : Address) (count i : ℕ) → count ≡ word l 4 % 256 → i ≡ placeIn l a count → record { valid = true; at = i } ≡ lookIn l a
 look-by l room packet n e none a count i ec ei =
-    let is-valid = not-false (lookIn l (addressIn 0) .valid) (first-none 9 (not (lookIn l (addressIn 0) .valid)) _ (omega arith) (sym e ∙ none) .0) in
-    let held = held-by l (addressIn 0) is-valid in
+    let held = held-by l (not-false (isHeld l) (first-none 9 (not (isHeld l)) _ (omega arith) (sym e ∙ none) .0)) in
     let own : i ≡ placeIn l a (word l 4) = ei ∙ ap (placeIn l a) (ec ∙ count-octet l (held .is-state)) in
     ap (λ (x : ℕ). record { valid = true; at = x }) own ∙ look-held l a held
 

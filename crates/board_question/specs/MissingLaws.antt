@@ -1,41 +1,28 @@
 -- The question of words: after i turns nothing of the first i senders is open. Assumes nothing.
-use Prim.Native.Nat.{ℕ, _+_, _%_, _≤_, _<_}
-use mathlib.Core.Path.{_≡_, refl, sym, ap, _∙_}
-use mathlib.Core.Logic.{⊎-elim, _≢_}
-use mathlib.Core.Bool.{Bool, true, false, cond}
+use Prim.Native.Nat.{ℕ, _+_, _<_}
+use mathlib.Core.Path.{_≡_, sym, ap, _∙_}
+use mathlib.Core.Logic.{_≢_}
+use mathlib.Core.Bool.{true, false}
 use mathlib.Core.List.{List}
-use native.Mathlib.Omega.{arith}
-use lib.Dec.{eqb, ltb}
 use borrow.Author.Count.{below-more}
 use borrow.Author.Tests.{eq-eqb, ne-eqb, lt-ltb}
-use Rattle.octets.specs.Split.{true-or-false, never-both, both}
 use Rattle.map.specs.Map.{lowestMissing}
-use Rattle.state.specs.declared.Receiver.{Receiver}
 use Rattle.state.specs.declared.Sender.{Sender}
-use Rattle.state.specs.Limits.{valid}
-use Rattle.state.specs.State.{sendersMost, senderAt, firstWhere}
-use Rattle.answers.specs.declared.Missing.the-variants.{Refused, NoneOpen, Piece}
+use Rattle.state.specs.State.{senderAt, firstWhere}
 use Rattle.rules.specs.calls.First.{first}
 use Rattle.rules.specs.calls.Question.{questionAnswer}
 use Rattle.rules.specs.calls.QuestionLaws.{first-of, question-none, question-nine}
 use Rattle.words.specs.declared.Record.{Record}
-use Rattle.words.specs.Words.{word, recordAt, addressIn, flag, senderOf, sendersIn, isState, stateIn}
-use Rattle.words_look.specs.Look.{lookIn}
-use Rattle.words_look.specs.LookLaws.{Held, look-tells}
+use Rattle.words.specs.Words.{word, recordAt, flag, sendersIn, stateIn}
+use Rattle.words_look.specs.Look.{isHeld}
+use Rattle.words_look.specs.LookLaws.{Held, nine-by}
 use Rattle.words_look.specs.HeldLaws.{sender-here}
-use Rattle.board.specs.declared.Missing.{Missing}
-use Rattle.board.specs.Calls.{noneMissing, missingOf, questionFor}
+use Rattle.board.specs.Calls.{noneMissing, questionFor}
 
 module _ (l : List ℕ) where
-  pub met-nine : lookIn l (addressIn 0) .valid ≡ false → noneMissing 9 ≡ questionFor l
+  pub met-nine : isHeld l ≡ false → noneMissing 9 ≡ questionFor l
   unfolding questionFor
-  met-nine e = ⊎-elim
-      (λ (is : isState l ≡ true). ⊎-elim
-      (λ (ok : valid (stateIn l) ≡ true). absurd (never-both (look-tells l (addressIn 0) ∙ both (isState l) (valid (stateIn l)) is ok) e))
-      (λ (not-so : valid (stateIn l) ≡ false). rw (is, sym (question-nine (stateIn l) not-so)))
-      (true-or-false (valid (stateIn l))))
-      (λ (not-so : isState l ≡ false). rw not-so)
-      (true-or-false (isState l))
+  met-nine e = nine-by l (noneMissing 9 ≡ questionFor l) e (λ no. rw no) (λ is no. rw (is, sym (question-nine (stateIn l) no)))
 
   -- Nothing of the first i senders is open.
   abbrev pub NoneTo : ℕ → Type 0

@@ -2,7 +2,6 @@
 ghost use mathlib.Core.Path.{_≡_};
 ghost use mathlib.Core.List.{_++_};
 ghost use lib.ListN.{length, drop};
-ghost use Rattle.state.specs.State.{sendersMost};
 ghost use Rattle.words.specs.Words.{wordsMost, before, settingsWords, wordsOf};
 ghost use Rattle.board.specs.Calls.{setupFor, setupWords};
 use answers::Setup;

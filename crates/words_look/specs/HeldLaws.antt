@@ -21,7 +21,7 @@ use Rattle.words.specs.Words.{word, recordAt, senderOf, shown, fits, isState, s
 use Rattle.words.specs.StateLaws.{state-facts, sender-in, fit-each}
 use Rattle.words.specs.WordsLaws.{shown-seen}
 use Rattle.words_look.specs.Look.{lookIn}
-use Rattle.words_look.specs.LookLaws.{Held, held-by}
+use Rattle.words_look.specs.LookLaws.{Held, held-by, look-tells}
 
 -- ---- what the look found
 
@@ -35,7 +35,7 @@ module _ (l : List ℕ) (a : Address) (k : Look) (el : k ≡ lookIn l a) where
   look-out not-so = rw (el, not-so)
 
   pub look-so : k .valid ≡ true → Held l
-  look-so e = held-by l a (sym (ap (λ (x : Look). x .valid) el) ∙ e)
+  look-so e = held-by l (sym (ap (λ (x : Look). x .valid) el ∙ look-tells l a) ∙ e)
 
 -- The count in an octet.
 pub count-octet : (l : List ℕ) → isState l ≡ true → word l 4 % 256 ≡ word l 4

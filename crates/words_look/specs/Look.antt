@@ -1,13 +1,17 @@
 -- A look at all words of a state: number 9, and a sender's place.
 use Prim.Native.Nat.{ℕ, zero, suc}
-use mathlib.Core.Bool.{false, cond}
+use mathlib.Core.Bool.{Bool, false, cond, _&&_}
 use mathlib.Core.List.{List}
 use lib.Dec.{ltb}
 use Rattle.state.specs.declared.Address.{Address}
 use Rattle.state.specs.declared.Look.{Look}
-use Rattle.state.specs.Limits.{sameAddress}
+use Rattle.state.specs.Limits.{sameAddress, valid}
 use Rattle.state.specs.Table.{lookAt}
 use Rattle.words.specs.Words.{place, word, addressIn, isState, stateIn}
+
+-- Number 9 is told unless the words are a state, and it is within its limits.
+unfoldable pub isHeld : List ℕ → Bool
+isHeld l = isState l && valid (stateIn l)
 
 abbrev pub outside : Look
 outside = record { valid = false; at = 0 }

@@ -1,7 +1,7 @@
 -- Laws of a look at a state's words: what is known where number 9 does not apply, and that the place that is found is
 -- the sender's in the state. Assumes nothing.
 use Prim.Native.Nat.{ℕ, zero, suc, _+_, _≤_, _<_}
-use mathlib.Core.Path.{_≡_, refl, sym, ap, _∙_}
+use mathlib.Core.Path.{_≡_, refl, sym, ap}
 use mathlib.Core.Logic.{⊎-elim}
 use mathlib.Core.Bool.{Bool, true, false, cond, _&&_}
 use mathlib.Core.List.{List}
@@ -18,7 +18,7 @@ use Rattle.state.specs.Table.{find, lookAt}
 use Rattle.state.specs.TableLaws.{look-outside}
 use Rattle.words.specs.Words.{place, wordsMost, word, addressIn, sendersIn, stateIn, isState}
 use Rattle.words.specs.StateLaws.{state-facts}
-use Rattle.words_look.specs.Look.{outside, lookIn, placeIn}
+use Rattle.words_look.specs.Look.{isHeld, outside, lookIn, placeIn}
 use Rattle.words_look.specs.AddressLaws.{address-in}
 
 -- ---- number 9
@@ -29,30 +29,31 @@ pub record Held (l : List ℕ) : Type 0 where
   pub is-valid : valid (stateIn l) ≡ true
 
 -- The look tells whether the words are a state within its limits.
-pub look-tells : (l : List ℕ) (a : Address) → lookIn l a .valid ≡ isState l && valid (stateIn l)
-unfolding lookIn lookAt
+pub look-tells : (l : List ℕ) (a : Address) → lookIn l a .valid ≡ isHeld l
+unfolding lookIn lookAt isHeld
 look-tells l a = by (isState l)
   where
     by : (b : Bool) → cond b (lookAt (stateIn l) a) outside .valid ≡ b && valid (stateIn l)
     by true = refl
     by false = refl
 
-pub held-by : (l : List ℕ) (a : Address) → lookIn l a .valid ≡ true → Held l
-held-by l a e =
-    let both-so = sym (look-tells l a) ∙ e in
-    record { is-state = and-left (isState l) (valid (stateIn l)) both-so; is-valid = and-right (isState l) (valid (stateIn l)) both-so }
+module _ (l : List ℕ) where
+  pub held-by : isHeld l ≡ true → Held l
+  unfolding isHeld
+  held-by e = record { is-state = and-left (isState l) (valid (stateIn l)) e; is-valid = and-right (isState l) (valid (stateIn l)) e }
 
-module _ (l : List ℕ) (a : Address) where
-  pub nine-unless : (Held l → ⊥) → false ≡ lookIn l a .valid
-  nine-unless never = sym (look-tells l a ∙ not-both (isState l) (valid (stateIn l)) (λ is ok. never (record { is-state = is; is-valid = ok })))
+  pub nine-unless : (Held l → ⊥) → false ≡ isHeld l
+  unfolding isHeld
+  nine-unless never = sym (not-both (isState l) (valid (stateIn l)) (λ is ok. never (record { is-state = is; is-valid = ok })))
 
-  -- Whatever address is looked for.
-  pub outside-nine : (b : Address) → lookIn l b .valid ≡ false → outside ≡ lookIn l a
+  -- Where it is told, the words are no state, or the state that they are is outside its limits.
+  pub nine-by : (P : Type 0) → isHeld l ≡ false → (isState l ≡ false → P) → (isState l ≡ true → valid (stateIn l) ≡ false → P) → P
+  unfolding isHeld
+  nine-by P e none outside-limits = ⊎-elim (λ (is : isState l ≡ true). outside-limits is (rw is at e)) none (true-or-false (isState l))
+
+  pub outside-nine : (a : Address) → isHeld l ≡ false → outside ≡ lookIn l a
   unfolding lookIn
-  outside-nine b e = ⊎-elim
-      (λ (yes : isState l ≡ true). rw yes (look-outside (stateIn l) a (rw yes at (sym (look-tells l b) ∙ e))))
-      (λ (no : isState l ≡ false). rw no)
-      (true-or-false (isState l))
+  outside-nine a e = nine-by (outside ≡ lookIn l a) e (λ no. rw no) (λ is no. rw is (look-outside (stateIn l) a no))
 
 -- ---- the sender's place
 

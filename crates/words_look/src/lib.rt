@@ -7,7 +7,7 @@ ghost use mathlib.Core.Path.{_≡_};
 ghost use mathlib.Core.Bool.{true, _&&_};
 ghost use Rattle.state.specs.Limits.{isAddress, lastWithin, messageWithin};
 ghost use Rattle.words.specs.Words.{recordIn, addressIn, lastIn, messageIn};
-ghost use Rattle.words_look.specs.Look.{placeIn, lookIn};
+ghost use Rattle.words_look.specs.Look.{isHeld, placeIn, lookIn};
 ghost use Rattle.words_look.specs.private.Tests.{eachSetting, settingsFit, recordWithin, Sized, recordsWithin, noneTwice, aliveWithin, openWithin, cutWithin};
 use cut::possible::several;
 use header::codes::code_of;
@@ -27,7 +27,7 @@ use words::places;
 
 // Number 9: whether the words are a state within its limits.
 pub fn within(words: &[u64]) -> bool
-    ensures { λ r. ⌜ r ≡ lookIn (now (words .entry)) (addressIn 0) .valid ⌝ }
+    ensures { λ r. ⌜ r ≡ isHeld (now (words .entry)) ⌝ }
 {
     if words.len() != places::WORDS {
         return false;

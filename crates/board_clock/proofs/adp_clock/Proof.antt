@@ -49,7 +49,7 @@ same-length-2 c = search needs
 returns-2 : tie.Need-returns-2 Inv-loop μ-loop
 returns-2 c =
     let a = c .before .before .before .before .before .before .before .before .args in
-    let held = held-by (now (a .state)) _ (sym (c .before .before .before .before .before .within .ensures) ∙ not-false _ (c .before .before .before .before .if1 .left)) in
+    let held = held-by (now (a .state)) (sym (c .before .before .before .before .before .within .ensures) ∙ not-false _ (c .before .before .before .before .if1 .left)) in
     met-back (now (a .state)) (a .ms) held (rw (c .before .before .at .ensures) at (c .before .if2 .taken)) _ (c .refused2 .ensures)
 
 at-requires-2 : tie.Need-at-requires-2 Inv-loop μ-loop
@@ -64,7 +64,7 @@ cast-count c = search needs
 loop-holds : tie.Need-loop-holds Inv-loop μ-loop
 loop-holds c =
     let a = c .before .before .before .before .before .before .before .before .before .before .before .args in
-    let held = held-by (now (a .state)) _ (sym (c .before .before .before .before .before .before .before .before .within .ensures) ∙ not-false _ (c .before .before .before .before .before .before .before .if1 .left)) in
+    let held = held-by (now (a .state)) (sym (c .before .before .before .before .before .before .before .before .within .ensures) ∙ not-false _ (c .before .before .before .before .before .before .before .if1 .left)) in
     let few = state-facts (now (a .state)) (held .is-state) .few in
     let count : c .at3 .result % 256 ≡ word (now (a .state)) 4 = ap (λ (x : ℕ). x % 256) (c .at3 .ensures) ∙ mod-eq-of-lt (omega arith) in
     (held, aging-none (now (a .state)) (a .ms) held, count, c .before .before .at2 .ensures, omega (arith, count))

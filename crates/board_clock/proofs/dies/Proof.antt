@@ -1,6 +1,6 @@
 -- So many whole seconds are so many thousands of ms. Assumes nothing.
 use Prim.Native.Nat.{_*_, _-_, _/_}
-use mathlib.Core.Path.{_≡_, refl}
+use mathlib.Core.Path.{_≡_}
 use native.Mathlib.Omega.{arith}
 use lib.Dec.{leb}
 use borrow.Author.Tests.{leb-true, le-leb}

@@ -1,5 +1,4 @@
 -- The cutter, and what is told of it. Assumes nothing.
-use mathlib.Core.Path.{_∙_}
 use borrow.Author.Needs.{needs}
 use Rattle.board_cut.proofs.adp_cut.Statement.{statement}
 use Rattle.board_cut.proofs.adp_cut.Tie as tie

@@ -39,7 +39,7 @@ cast-count c = search needs
 loop-holds : tie.Need-loop-holds Inv-loop μ-loop
 loop-holds c =
     let a = c .before .before .before .before .args in
-    let held = held-by (now (a .state)) _ (sym (c .before .before .within .ensures) ∙ not-false _ (c .before .if1 .left)) in
+    let held = held-by (now (a .state)) (sym (c .before .before .within .ensures) ∙ not-false _ (c .before .if1 .left)) in
     (held, ap (λ (x : ℕ). x % 256) (c .at .ensures) ∙ count-octet (now (a .state)) (held .is-state), omega arith, λ j h. absurd (omega arith))
 
 load-requires : tie.Need-load-requires Inv-loop μ-loop

@@ -8,7 +8,7 @@ use denote.Ref.{now}
 use lib.ListN.{length, drop}
 use Rattle.octets.specs.RunLaws.{length-laid}
 use Rattle.state.specs.State.{sendersMost}
-use Rattle.words.specs.Words.{place, wordsMost, recordWords, front}
+use Rattle.words.specs.Words.{place, wordsMost, front}
 use Rattle.board_setup.specs.StartedLaws.{settings-many, senders-none, sender-set, words-all}
 use Rattle.board_setup.proofs.write.Statement.{statement}
 use Rattle.board_setup.proofs.write.Tie as tie

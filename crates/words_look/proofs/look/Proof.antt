@@ -3,8 +3,6 @@ use Prim.Native.Nat.{ℕ, _%_}
 use mathlib.Core.Path.{sym, ap, _∙_}
 use denote.Ref.{now}
 use borrow.Author.Tests.{not-true, not-false}
-use native.Mathlib.Omega.{arith}
-use Rattle.words.specs.Words.{addressIn}
 use Rattle.words_look.specs.LookLaws.{held-by, outside-nine, look-held}
 use Rattle.words_look.specs.HeldLaws.{count-octet}
 use borrow.Author.Needs.{needs}
@@ -17,7 +15,7 @@ within-requires c κs = search needs
 returns : tie.Need-returns
 returns c =
     let a = c .before .before .before .args in
-    outside-nine (now (a .words)) (a .a) (addressIn 0) (sym (c .before .within .ensures) ∙ not-true _ (c .if1 .taken))
+    outside-nine (now (a .words)) (a .a) (sym (c .before .within .ensures) ∙ not-true _ (c .if1 .taken))
 
 at-requires : tie.Need-at-requires
 at-requires c κs = search needs
@@ -32,7 +30,7 @@ returns-2 : tie.Need-returns-2
 returns-2 c =
     let found = c .before .before in
     let a = found .before .before .before .args in
-    let held = held-by (now (a .words)) (addressIn 0) (sym (found .before .within .ensures) ∙ not-false _ (found .if1 .left)) in
+    let held = held-by (now (a .words)) (sym (found .before .within .ensures) ∙ not-false _ (found .if1 .left)) in
     let count = ap (λ (w : ℕ). w % 256) (c .before .at .ensures) ∙ count-octet (now (a .words)) (held .is-state) in
     rw (c .place-of .ensures, count) (look-held (now (a .words)) (a .a) held)
 

@@ -3,7 +3,6 @@ use Prim.Native.Nat.{ℕ, _%_}
 use mathlib.Core.Path.{sym, ap, _∙_}
 use denote.Ref.{now}
 use borrow.Author.Tests.{not-true, not-false}
-use Rattle.words.specs.Words.{addressIn}
 use Rattle.words.specs.StateLaws.{state-facts}
 use Rattle.words_look.specs.LookLaws.{nine-unless}
 use Rattle.words_look.specs.private.TestsLaws.{whole-test, sized, senders-tests}
@@ -14,7 +13,7 @@ use Rattle.words_look.proofs.within.Tie as tie
 returns : tie.Need-returns
 returns c =
     let l = now (c .before .before .args .words) in
-    nine-unless l (addressIn 0) (λ h. c .if1 .taken (state-facts l (h .is-state) .many))
+    nine-unless l (λ h. c .if1 .taken (state-facts l (h .is-state) .many))
 
 settings-within-requires : tie.Need-settings-within-requires
 settings-within-requires c κs = search needs
@@ -23,7 +22,7 @@ returns-2 : tie.Need-returns-2
 returns-2 c =
     let one = c .before .before in
     let settings = c .before .settings-within in
-    rw (whole-test (now (one .before .before .args .words)) (addressIn 0) (one .if1 .left), sym (settings .ensures), not-true (settings .result) (c .if2 .taken))
+    rw (whole-test (now (one .before .before .args .words)) (one .if1 .left), sym (settings .ensures), not-true (settings .result) (c .if2 .taken))
 
 at-requires : tie.Need-at-requires
 at-requires c κs = search needs
@@ -43,7 +42,7 @@ returns-3 c =
     let one = two .before .before in
     let settings = sym (two .before .settings-within .ensures) ∙ not-false _ (two .if2 .left) in
     c .senders-within .ensures
-    ∙ sym (senders-tests (now (one .before .before .args .words)) (one .if1 .left) settings _ (ap (λ (w : ℕ). w % 256) (c .before .at .ensures)) (addressIn 0))
+    ∙ sym (senders-tests (now (one .before .before .args .words)) (one .if1 .left) settings _ (ap (λ (w : ℕ). w % 256) (c .before .at .ensures)))
 
 pub within-spec : {M : Type 1} → statement M
 within-spec =

@@ -16,7 +16,6 @@ use Rattle.header.specs.Codes.{isUser}
 use Rattle.cut.specs.Possible.{severalPossible}
 use Rattle.cut.specs.PossibleLaws.{several-facts, several-most}
 use Rattle.map.specs.Map.{isEmpty, isFull, markedPast}
-use Rattle.state.specs.declared.Address.{Address}
 use Rattle.state.specs.Key.{keyOf, Narrow, newKey}
 use Rattle.state.specs.KeyLaws.{Seen, seen-none, seen-more, new-seen}
 use Rattle.state.specs.Limits.{isAddress, isN1, isDropTime, clockMost, lastWithin, messageWithin, senderWithin, newAmong, addressAt, sendersWithin, settingsOf, settingsWithin, valid}
@@ -26,9 +25,8 @@ use Rattle.words.specs.declared.Record.{Record}
 use Rattle.words.specs.Words.{place, each, wordsMost, word, half, recordIn, recordAt, addressIn, lastIn, messageIn, flag, senderOf, fits, sendersIn, stateIn, fitTo, isState}
 use Rattle.words.specs.StateLaws.{state-facts, state-of, sender-in}
 use Rattle.words.specs.WrittenLaws.{part-in}
-use Rattle.words_look.specs.Look.{lookIn}
+use Rattle.words_look.specs.Look.{isHeld}
 use Rattle.words_look.specs.AddressLaws.{address-key, address-narrow, address-short, address-word, address-in}
-use Rattle.words_look.specs.LookLaws.{look-tells}
 use Rattle.words_look.specs.private.Tests.{eachSetting, settingsFit, whereSet, aliveWithin, openWithin, cutWithin, recordWithin, Sized, eachTo, recordsWithin, noneTwice}
 
 -- ---- a test that each passes
@@ -188,16 +186,16 @@ settings-count l e =
     leb-true (word l 4) sendersMost (and-right a1 a2 e2)
 
 -- Of as many words as a state has.
-pub whole-test : (l : List ℕ) (a : Address) → length l ≡ wordsMost
-    → lookIn l a .valid ≡ settingsFit l && (recordsWithin l (word l 4) && noneTwice l (word l 4))
-unfolding settingsFit valid
-whole-test l a many =
+pub whole-test : (l : List ℕ) → length l ≡ wordsMost
+    → isHeld l ≡ settingsFit l && (recordsWithin l (word l 4) && noneTwice l (word l 4))
+unfolding settingsFit valid isHeld
+whole-test l many =
     let test = leb (word l 0) 1 in
     let settings = settingsWithin (stateIn l) in
     let senders = recordsWithin l (word l 4) && noneTwice l (word l 4) in
     let fit = fitTo l (word l 4) in
     let within = sendersWithin (word l 3) (sendersIn l) (word l 4) in
-    look-tells l a ∙ same-test (isState l && (settings && within)) (test && settings && senders)
+    same-test (isState l && (settings && within)) (test && settings && senders)
     (λ e.
     let f = state-facts l (and-left (isState l) (settings && within) e) in
     let v = and-right (isState l) (settings && within) e in
@@ -218,8 +216,8 @@ module _ (l : List ℕ) (many : length l ≡ wordsMost) (settings : settingsFit 
   pub sized : Sized l count
   sized = record { many = many; most = omega (arith, count-is, settings-count l settings) }
 
-  pub senders-tests : (a : Address) → lookIn l a .valid ≡ recordsWithin l count && noneTwice l count
-  senders-tests a = whole-test l a many ∙ rw (settings, count-is)
+  pub senders-tests : isHeld l ≡ recordsWithin l count && noneTwice l count
+  senders-tests = whole-test l many ∙ rw (settings, count-is)
 
 -- One sender alone is no pair.
 pub none-few : (l : List ℕ) (k : ℕ) → k ≤ 1 → noneTwice l k ≡ true
