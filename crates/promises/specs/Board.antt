@@ -19,7 +19,7 @@ use Rattle.board.specs.declared.Told.{Told}
 use Rattle.board.specs.declared.Missing.{Missing}
 use Rattle.board.specs.declared.Ticked.{Ticked}
 use Rattle.board.specs.Calls.{setupFor, setupWords, toldOf, messageFor, storageFor, aliveFor, tickedOf, clockFor, missingOf, questionFor}
-use Rattle.promises.specs.Course.{world, SetupMeets, Meets, Course}
+use Rattle.promises.specs.Course.{world, SetupMeets, Course}
 
 -- What a board holds: the words of its state, and the storage.
 pub record Board : Type 0 where

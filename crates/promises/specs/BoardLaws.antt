@@ -1,23 +1,19 @@
 -- A board's calls are a course. Assumes nothing.
-use Prim.Native.Nat.{ℕ}
 use mathlib.Core.Path.{_≡_, refl, sym, ap, subst, _∙_}
-use mathlib.Core.Bool.{true, cond}
-use mathlib.Core.List.{List, [], _∷_}
+use mathlib.Core.Bool.{true}
+use mathlib.Core.List.{[], _∷_}
 use lib.ListN.{length}
 use borrow.Author.Tests.{eq-eqb}
-use Rattle.answers.specs.declared.Setup.{Setup}
-use Rattle.state.specs.declared.Receiver.{Receiver}
-use Rattle.rules.specs.pasts.Past.{World, Event, message, alive, clock, aside, question, step, Said, said, Answers, answers}
+use Rattle.rules.specs.pasts.Past.{Event, message, alive, clock, aside, question, step, said, answers}
 use Rattle.rules.specs.calls.Setup.{setupAnswer}
-use Rattle.words.specs.Words.{wordsMost, isState, stateIn, leftBy, wordsOf}
-use Rattle.words.specs.WrittenLaws.{Means}
+use Rattle.words.specs.Words.{wordsMost, isState, stateIn, wordsOf}
 use Rattle.board.specs.Calls.{setupFor, setupWords, messageFor, storageFor, aliveFor, clockFor, questionFor}
 use Rattle.board_message.specs.MessageLaws.{message-means}
 use Rattle.board_alive.specs.HeardLaws.{alive-means}
 use Rattle.board_clock.specs.TickedLaws.{clock-means}
 use Rattle.board_setup.specs.StartedLaws.{setup-means}
-use Rattle.promises.specs.Board.{Board, worldOf, InNumbers, BoardMeets, BoardStarts, AllInNumbers, BoardCourse, numbersOf, allNumbers, BoardBegins, BoardIsCourse}
-use Rattle.promises.specs.Course.{world, Meets, Course}
+use Rattle.promises.specs.Board.{Board, worldOf, InNumbers, BoardMeets, AllInNumbers, numbersOf, BoardBegins, BoardIsCourse}
+use Rattle.promises.specs.Course.{Meets}
 use Rattle.promises.specs.CourseLaws.{same-world, a-call}
 
 -- One call: it is told what the call by value says, and leaves the words of what that call leaves.

@@ -19,7 +19,7 @@ ghost use Rattle.rules.specs.calls.Question.{questionAnswer};
 ghost use Rattle.rules.specs.calls.Setup.{setupAnswer};
 ghost use Rattle.tally.specs.Tally.{counted as countedOf};
 ghost use Rattle.words.specs.Words.{wordsMost, stateIn, leftBy};
-ghost use Rattle.board.specs.Calls.{setupFor, setupWords, messageFor, storageFor, aliveFor, clockFor, questionFor};
+ghost use Rattle.board.specs.Calls.{setupFor, setupWords, messageFor, storageFor, tallyFor, aliveFor, clockFor, questionFor};
 ghost use Rattle.promises.specs.Board.{board, BoardMeets, BoardStarts};
 ghost use Rattle.promises.specs.Course.{world, messagesOf, Leads, SetupMeets, MessageMeets, TallyMeets, PartMeets, AliveMeets, ClockMeets, QuestionMeets, CutterMeets};
 use answers::Answer;
@@ -35,6 +35,7 @@ use board_clock::adp_clock;
 use board_message::adp_message;
 use board_question::adp_question;
 use board_setup::adp_setup;
+use board_tallied::adp_message_tallied;
 use cut::cutter::Cutting;
 use header::Given;
 use state::Receiver;
@@ -122,6 +123,22 @@ pub fn board_message(state: &mut [u64], storage: &mut [u8], packet: &[u8]) -> To
     ensures meets { λ r. ⌜ BoardMeets (board (now (state .entry)) (now (storage .entry))) (past.message (now (packet .entry))) r (board (now (state .exit)) (now (storage .exit))) ⌝ }
 {
     adp_message(state, storage, packet)
+}
+
+// The message call with the tally lent: the same call.
+pub fn board_tallied(
+    state: &mut [u64],
+    storage: &mut [u8],
+    packet: &[u8],
+    tally: &mut [u32; 2],
+) -> Told
+    ensures answer { λ r. ⌜ r ≡ messageFor (now (state .entry)) (length (now (storage .entry))) (now (packet .entry)) ⌝ }
+    ensures left { λ _. ⌜ now (state .exit) ≡ leftBy (now (state .entry)) (messageAnswer (stateIn (now (state .entry))) (length (now (storage .entry))) (now (packet .entry)) .state) ⌝ }
+    ensures kept { λ _. ⌜ now (storage .exit) ≡ storageFor (now (state .entry)) (now (storage .entry)) (now (packet .entry)) ⌝ }
+    ensures tallied { λ _. ⌜ now (tally .exit) ≡ tallyFor (now (tally .entry)) (now (state .entry)) (length (now (storage .entry))) (now (packet .entry)) ⌝ }
+    ensures message { λ r. ⌜ BoardMeets (board (now (state .entry)) (now (storage .entry))) (past.message (now (packet .entry))) r (board (now (state .exit)) (now (storage .exit))) ⌝ }
+{
+    adp_message_tallied(state, storage, packet, tally)
 }
 
 pub fn board_alive(state: &mut [u64], packet: &[u8]) -> u8
