@@ -36,7 +36,8 @@ use Rattle.rules.specs.calls.Message.{headWithin, packetRows, messageAnswer, re
 use Rattle.rules.specs.calls.MessageLaws.{Passed, passed-facts, Answered, pass-refused, pass-late, pass-taken}
 use Rattle.rules.specs.calls.SeenLaws.{looks-rows, looks-outcome, looks-held, looks-dropped, changes-after}
 use Rattle.words.specs.declared.Record.{Record}
-use Rattle.words.specs.Words.{place, word, recordWords, recordAt, senderOf, shown, joinedBy, isState, stateIn, leftBy}
+use Rattle.words.specs.Words.{place, word, recordWords, recordAt, senderOf, joinedBy, isState, stateIn, leftBy}
+use Rattle.words.specs.Shown.{shown}
 use Rattle.words.specs.StateLaws.{state-facts}
 use Rattle.words_look.specs.Look.{isHeld, lookIn, placeIn}
 use Rattle.words_look.specs.LookLaws.{Held, held-by, look-tells, look-held}

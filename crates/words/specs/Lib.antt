@@ -1,4 +1,5 @@
 pub mod Words
+pub mod Shown
 pub mod WordsLaws
 pub mod ListedLaws
 pub mod StateLaws

@@ -11,7 +11,7 @@ use Rattle.state.specs.declared.Last.{Last}
 use Rattle.state.specs.declared.Message.{Message}
 use Rattle.state.specs.declared.Receiver.{Receiver}
 use Rattle.state.specs.declared.Sender.{Sender}
-use Rattle.state.specs.State.{sendersMost, noMessage, noHeard, senderAt, Settings, stateOf}
+use Rattle.state.specs.State.{sendersMost, senderAt, Settings, stateOf}
 use Rattle.words.specs.declared.Record.{Record}
 
 -- ---- the table
@@ -130,34 +130,6 @@ recordOf s = record {
 -- their field are outside the state's limits (Limits of `state`). What is not looked at may be anything.
 unfoldable pub fits : Record → Bool
 fits r = leb (r .«open») 1 && leb (r .alive) 1 && (not (flag (r .alive)) || ltb (r .timeout) half)
-
--- The open message in fields as wide as the paper's, TBN in one octet.
-abbrev pub narrowed : Record → Message
-narrowed r = record {
-  version = messageIn r .version;
-  number = messageIn r .number;
-  tcd = messageIn r .tcd;
-  n = messageIn r .n;
-  tbn = messageIn r .tbn % 256;
-  u = messageIn r .u;
-  map = r .map;
-  stamp = r .stamp;
-}
-
--- When an alive sender was heard, al_tm_out in four octets.
-abbrev pub heardShown : Record → Heard
-heardShown r = cond (flag (r .alive)) (record { stamp = r .heard; timeout = r .timeout % half }) noHeard
-
--- What is looked at of a sender, in fields as wide as the paper's: of words that fit nothing is lost by that.
-unfoldable pub shown : Record → Sender
-shown r = record {
-  address = record { field = record { 0 = r .address / 65536 % 256 }; node = record { 0 = r .address % 65536 } };
-  last = lastIn (r .last);
-  «open» = flag (r .«open»);
-  message = cond (flag (r .«open»)) (narrowed r) noMessage;
-  alive = flag (r .alive);
-  heard = heardShown r;
-}
 
 -- The words with another last version and number, and another message, open or not: what a message call changes.
 abbrev pub joinedBy : Record → Sender → Record

@@ -23,7 +23,8 @@ use Rattle.state.specs.State.{noMessage, noHeard}
 use Rattle.state.specs.WithinLaws.{if-so, message-facts, sender-facts}
 use Rattle.rules.specs.calls.Alike.{seen}
 use Rattle.words.specs.declared.Record.{Record}
-use Rattle.words.specs.Words.{place, each, word, recordIn, recordWords, noRecord, recordAt, half, flag, flagWord, addressIn, addressWord, messageIn, narrowed, heardShown, shown, senderOf, fits}
+use Rattle.words.specs.Words.{place, each, word, recordIn, recordWords, noRecord, recordAt, half, flag, flagWord, addressIn, addressWord, messageIn, senderOf, fits}
+use Rattle.words.specs.Shown.{narrowed, heardShown, shown}
 
 -- ---- flags
 

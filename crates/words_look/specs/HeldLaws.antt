@@ -17,7 +17,8 @@ use Rattle.state.specs.Table.{lookAt}
 use Rattle.state.specs.WithinLaws.{SenderWithin, valid-settings, valid-sender, sender-of}
 use Rattle.rules.specs.calls.Alike.{seen}
 use Rattle.words.specs.declared.Record.{Record}
-use Rattle.words.specs.Words.{word, recordAt, senderOf, shown, fits, isState, stateIn}
+use Rattle.words.specs.Words.{word, recordAt, senderOf, fits, isState, stateIn}
+use Rattle.words.specs.Shown.{shown}
 use Rattle.words.specs.StateLaws.{state-facts, sender-in, fit-each}
 use Rattle.words.specs.WordsLaws.{shown-seen}
 use Rattle.words_look.specs.Look.{lookIn}

@@ -1,5 +1,5 @@
 -- Field by field. Assumes nothing.
-use Rattle.words.specs.Words.{shown}
+use Rattle.words.specs.Shown.{shown}
 use borrow.Author.Needs.{needs}
 use Rattle.words.proofs.Record.sender.Statement.{statement}
 use Rattle.words.proofs.Record.sender.Tie as tie
