@@ -26,7 +26,7 @@ use Rattle.answers.specs.declared.Admission.{Admission}
 use Rattle.answers.specs.declared.Answer.{Answer}
 use Rattle.answers.specs.declared.Where.{Where}
 use Rattle.answers.specs.Told.{refusedNumber}
-use Rattle.rules.specs.calls.Admit.{senderRows, senderAfter, admitted, admission, messageOf, mapAfter, lastBy, verdictOf, fills}
+use Rattle.rules.specs.calls.Admit.{senderRows, senderAfter, admitted, admission, messageAfter, lastBy, verdictOf, fills}
 use Rattle.rules.specs.calls.AdmitLaws.{Admitted, admitted-facts, admission-number, admission-yes}
 use Rattle.rules.specs.calls.AdmitValidLaws.{after-stays}
 use Rattle.rules.specs.calls.Alike.{seen}
@@ -182,7 +182,7 @@ module _ (l storage packet : List ℕ) (h : Head) (a : Address) (k : Look) (coun
           unfolding senderAfter
           put-after = cond-case (λ (x : Sender). SenderWithin (word l 3) x → senderOf (joinedBy r (seen x)) ≡ x) (fills (senderOf r) h) _ _
               (λ _ f. closed-there r (lastBy (verdictOf (word l 1) (senderOf r) h) (senderOf r) h) (f .last))
-              (λ _ f. opened-there r (word l 3) (messageOf (word l 3) (mapAfter (senderOf r) h) h) (f .message refl))
+              (λ _ f. opened-there r (word l 3) (messageAfter (word l 3) (senderOf r) h) (f .message refl))
               after-within
 
           put-words : laid l (place (k .at)) (recordWords (joinedBy r (o .sender))) ≡ leftBy l (withSender (stateIn l) (k .at) (by-value .sender))

@@ -27,7 +27,7 @@ use Rattle.map.specs.MapLaws.{bit-set, bit-keep, bit-zero, set-below, full-bit,
 use Rattle.state.specs.declared.Message.{Message}
 use Rattle.state.specs.declared.Sender.{Sender}
 use Rattle.state.specs.State.{Settings}
-use Rattle.rules.specs.calls.Admit.{rejoins, sameCut, mapBefore, mapAfter, fills, messageOf, senderAfter, admitted}
+use Rattle.rules.specs.calls.Admit.{rejoins, sameCut, mapBefore, mapAfter, fills, senderAfter, admitted}
 use Rattle.rules.specs.calls.AdmitLaws.{Admitted, admitted-facts, rejoins-open, map-adds, fills-full}
 use Rattle.promised.specs.Join.{Kin, kinOf, numberIn, behind, Brought, OnePerNumber, Joined}
 use Rattle.rules.specs.calls.Message.{area, storageAfter}
@@ -63,16 +63,17 @@ module _ (n u t c : ℕ) (octets q : List ℕ) (pos : 1 ≤ u) (count : pieces n
 
 -- ---- an open message holds what was brought
 
-pub record Fine (packets : List (List ℕ)) (m : Message) (octets : List ℕ) : Type 0 where
-  pub several : Several (m .n) (m .tbn) (m .u)
-  pub room : m .map < 2 ^ m .tbn
-  pub has : (c : ℕ) → 1 ≤ c → c ≤ m .tbn → bit (c - 1) (m .map) ≡ 1 → Brought packets (kinIn m) c (pieceAt (m .n) (m .u) c octets)
-  pub marked : (o : List ℕ) → List·Memᴰ o packets → (kinOf o ≡ kinIn m) × (1 ≤ numberIn o) × (bit (numberIn o - 1) (m .map) ≡ 1)
+-- Of its record it is looked at what all its pieces share, and at the map.
+pub record Fine (packets : List (List ℕ)) (k : Kin) (map : ℕ) (octets : List ℕ) : Type 0 where
+  pub several : Several (k .n) (k .tbn) (k .u)
+  pub room : map < 2 ^ k .tbn
+  pub has : (c : ℕ) → 1 ≤ c → c ≤ k .tbn → bit (c - 1) map ≡ 1 → Brought packets k c (pieceAt (k .n) (k .u) c octets)
+  pub marked : (o : List ℕ) → List·Memᴰ o packets → (kinOf o ≡ k) × (1 ≤ numberIn o) × (bit (numberIn o - 1) map ≡ 1)
   pub one-each : OnePerNumber packets
 
 pub record Inv (packets : List (List ℕ)) (v : View) : Type 0 where
   pub room : length (v .octets) ≡ area
-  pub good : v .sender .«open» ≡ true → Fine packets (v .sender .message) (v .octets)
+  pub good : v .sender .«open» ≡ true → Fine packets (kinIn (v .sender .message)) (v .sender .message .map) (v .octets)
 
 -- ---- a packet that is taken, with the map m before it
 
@@ -210,8 +211,8 @@ module _ (packets : List (List ℕ)) (p : List ℕ) (m : ℕ) (octets : List ℕ
         })
         (eq-or-ne c (numberIn p))
 
-    fine′ : (now : ℕ) → Fine (p ∷ packets) (messageOf now (m + pieceBit (numberIn p)) h) laid-down
-    fine′ now = record {
+    fine′ : Fine (p ∷ packets) (kinOf p) (m + pieceBit (numberIn p)) laid-down
+    fine′ = record {
       several = parts-of;
       room = set-below (kinOf p .tbn) (numberIn p - 1) m (omega (arith, facts .one, facts .top)) (b .room) (b .clear);
       has = has′;
@@ -269,11 +270,12 @@ module _ (packets : List (List ℕ)) (g : Settings) (v : View) (p : List ℕ) (i
       let z : 0 * area + ownPlace (head .cut) ≡ ownPlace (head .cut) = omega arith in
       rw (ne-eqb (head .cut .tbn) 1 ne, z)
 
-  put-good : admitted (g .n1) (v .now) s head .sender .«open» ≡ true → Fine (p ∷ so-far) (admitted (g .n1) (v .now) s head .sender .message) octets-after
+  put-good : admitted (g .n1) (v .now) s head .sender .«open» ≡ true → let m = admitted (g .n1) (v .now) s head .sender .message in
+      Fine (p ∷ so-far) (kinIn m) (m .map) octets-after
   unfolding admitted senderAfter
   put-good o = ⊎-elim
       (λ (f : fills s head ≡ true). let no : false ≡ true = rw f at o in absurd (never-both no refl))
-      (λ (f : fills s head ≡ false). rw (f, map-is, octets-several (more-than-one f)) (fine′ so-far p map₀ (v .octets) before (more-than-one f) (v .now)))
+      (λ (f : fills s head ≡ false). rw (f, map-is, octets-several (more-than-one f)) (fine′ so-far p map₀ (v .octets) before (more-than-one f)))
       (true-or-false (fills s head))
 
   put-inv : Inv (p ∷ so-far) (put g v p)

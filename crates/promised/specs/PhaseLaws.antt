@@ -22,7 +22,7 @@ use Rattle.state.specs.declared.Last.{Last}
 use Rattle.state.specs.declared.Sender.{Sender}
 use Rattle.state.specs.State.{Settings}
 use Rattle.answers.specs.declared.Outcome.the-variants.{Refused, Stored, Delivered}
-use Rattle.rules.specs.calls.Admit.{fills, mapAfter, verdictOf, messageOf, opened, closed, lastBy, senderAfter, admitted, notAdmitted, admission}
+use Rattle.rules.specs.calls.Admit.{fills, mapAfter, verdictOf, messageAfter, opened, closed, lastBy, senderAfter, admitted, notAdmitted, admission}
 use Rattle.rules.specs.calls.Clock.{drops, aged}
 use Rattle.promised.specs.JoinLaws.{kinIn}
 use Rattle.promised.specs.Delivery.{Sent, count, Numbered, PieceOf}
@@ -145,7 +145,7 @@ module _ (g : Settings) (m : Sent) (k : Cuttable m) (admits : eqb (m .mode) 1 &&
           kept some = is-checked (g .n1) (s .last .version) (s .last .number) (h .given .version) (h .given .number) (λ z. some (sym (is .version) ∙ z))
 
       -- One of several.
-      goes-on : grown ≢ fullMap (count m) → Unfinished m last With (opened s (messageOf (v .now) (mapAfter s h) h))
+      goes-on : grown ≢ fullMap (count m) → Unfinished m last With (opened s (messageAfter (v .now) s h))
       unfolding isOpen
       goes-on ne =
           let after : mapAfter s h ≡ grown = map-is (g .test) (g .n1) m k admits s c p is clear in

@@ -33,7 +33,7 @@ use Rattle.promised.specs.AgreesLaws.{Agrees}
 use Rattle.promised.specs.JudgedLaws.{alive-length, alive-head, alive-body}
 use Rattle.promised.specs.KeptLaws.{alive-number}
 use Rattle.promised.specs.Join.{numberIn}
-use Rattle.promised.specs.JoinLaws.{Fine}
+use Rattle.promised.specs.JoinLaws.{kinIn, Fine}
 use Rattle.promised.specs.Log.{Exchange, timeOf, openOf, isOpen, lifeOf}
 use Rattle.promised.specs.LogLaws.{open-pieces}
 use Rattle.promised.specs.Says.{sendersOf, firstPlace, placeOf, aliveSays, mapOf, isDropped, isOld, clockSays, hasPiece, piecesIn, questionSays}
@@ -95,7 +95,7 @@ piece-had (p ∷ packets) c e = ⊎-elim
     (either (eqb (numberIn p) c) (hasPiece packets c) e)
 
 -- The map holds the pieces that were accepted.
-pub held-is : (packets : List (List ℕ)) (m : Message) (octets : List ℕ) → Fine packets m octets → (c : ℕ) → 1 ≤ c → c ≤ m .tbn → holds (m .map) c ≡ hasPiece packets c
+pub held-is : (packets : List (List ℕ)) (m : Message) (octets : List ℕ) → Fine packets (kinIn m) (m .map) octets → (c : ℕ) → 1 ≤ c → c ≤ m .tbn → holds (m .map) c ≡ hasPiece packets c
 held-is packets m octets f c low top = same-test (holds (m .map) c) (hasPiece packets c)
     (λ e. let b = f .has c low top (eqb-true (bit (c - 1) (m .map)) 1 e) in subst (λ (x : ℕ). hasPiece packets x ≡ true) (b .number) (has-piece packets (b .packet) (b .among)))
     (λ e. let o = piece-had packets c e in eq-eqb (bit (c - 1) (m .map)) 1 (subst (λ (x : ℕ). bit (x - 1) (m .map) ≡ 1) (o .2) (f .marked (o .0) (o .1) .2)))
@@ -167,7 +167,7 @@ module _ (q : Setup) (log : List Exchange) (w : World) (a : Agrees q log w) wher
     abbrev s : Sender
     s = senderAt (w .state) i
 
-    fine : Fine (at i) (s .message) (view w i .octets)
+    fine : Fine (at i) (kinIn (s .message)) (s .message .map) (view w i .octets)
     unfolding view
     fine = a .tells i here .inv .good opened
 

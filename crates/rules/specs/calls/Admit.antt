@@ -105,13 +105,16 @@ messageOf clock map h = record {
   stamp = clock;
 }
 
+abbrev pub messageAfter : ℕ → Sender → Head → Message
+messageAfter clock s h = messageOf clock (mapAfter s h) h
+
 abbrev pub opened : Sender → Message → Sender
 opened s m = withMessage s true m
 
 -- The sender's record afterwards.
 unfoldable pub senderAfter : ℕ → ℕ → Sender → Head → Sender
 senderAfter n1 clock s h =
-    cond (fills s h) (closed s (lastBy (verdictOf n1 s h) s h)) (opened s (messageOf clock (mapAfter s h) h))
+    cond (fills s h) (closed s (lastBy (verdictOf n1 s h) s h)) (opened s (messageAfter clock s h))
 
 -- "How many pieces are held is the count of ones in the map."
 unfoldable pub heldAfter : Sender → Head → ℕ

@@ -18,7 +18,7 @@ use Rattle.map.specs.Map.{fullMap, pieceBit}
 use Rattle.map.specs.MapLaws.{bit-zero, set-below, holds-not}
 use Rattle.state.specs.declared.Last.{Last}
 use Rattle.state.specs.declared.Sender.{Sender}
-use Rattle.rules.specs.calls.Admit.{rejoins, sameCut, verdictOf, mapAfter, fills, lastBy, closed, messageOf, opened, senderAfter}
+use Rattle.rules.specs.calls.Admit.{rejoins, sameCut, verdictOf, mapAfter, fills, lastBy, closed, messageAfter, opened, senderAfter}
 use Rattle.rules.specs.calls.AdmitLaws.{Admitted, rejoins-open, map-adds, fills-full}
 use Rattle.state.specs.Limits.{lastWithin}
 use Rattle.state.specs.WithinLaws.{MessageWithin, message-facts, message-of, SenderWithin, Stays}
@@ -57,7 +57,7 @@ module _ (n1 clock : ℕ) (s : Sender) (h : Head) (a : Admitted n1 s h) where
 
   module _ (number : isNumber (h .given .number .0) ≡ true) (code : isUser (h .given .tcd) ≡ true) where
     -- One piece always fills the map, so a message that stays open has several.
-    open-within : SenderWithin clock s → fills s h ≡ false → MessageWithin clock (messageOf clock (mapAfter s h) h)
+    open-within : SenderWithin clock s → fills s h ≡ false → MessageWithin clock (messageAfter clock s h)
     open-within f e =
         let t = h .cut .tbn in
         let not-full = eqb-false (mapAfter s h) (fullMap t) (sym (fills-full s h) ∙ e) in
@@ -80,7 +80,7 @@ module _ (n1 clock : ℕ) (s : Sender) (h : Head) (a : Admitted n1 s h) where
 
     pub after-stays : Stays clock clock s (senderAfter n1 clock s h)
     unfolding senderAfter
-    after-stays = cond-case (Stays clock clock s) (fills s h) (closed s (lastBy (verdictOf n1 s h) s h)) (opened s (messageOf clock (mapAfter s h) h))
+    after-stays = cond-case (Stays clock clock s) (fills s h) (closed s (lastBy (verdictOf n1 s h) s h)) (opened s (messageAfter clock s h))
         (λ _. record {
           address = refl;
           within = λ f. record { address = f .address; last = last-within f; message = λ z. absurd (false≢true z); heard = f .heard };
@@ -90,7 +90,7 @@ module _ (n1 clock : ℕ) (s : Sender) (h : Head) (a : Admitted n1 s h) where
           within = λ f. record {
             address = f .address;
             last = f .last;
-            message = λ _. message-of clock (messageOf clock (mapAfter s h) h) (open-within f e);
+            message = λ _. message-of clock (messageAfter clock s h) (open-within f e);
             heard = f .heard;
           };
         })
