@@ -18,7 +18,7 @@ use Rattle.ring.specs.RingLaws.{same-number}
 use Rattle.header.specs.declared.Head.{Head}
 use Rattle.header.specs.Head.{headOf}
 use Rattle.cut.specs.PossibleLaws.{possible-facts}
-use Rattle.map.specs.MapLaws.{bit-zero, set-below, full-ones, holds-not, ones-set}
+use Rattle.map.specs.MapLaws.{set-below, full-ones}
 use Rattle.state.specs.declared.Address.{Address}
 use Rattle.state.specs.declared.Last.{Last}
 use Rattle.state.specs.declared.Sender.{Sender}
@@ -27,7 +27,7 @@ use Rattle.state.specs.State.{Settings}
 use Rattle.answers.specs.declared.Outcome.the-variants.{Stored, Delivered}
 use Rattle.answers.specs.Told.{OutcomeTold, outcomeTold}
 use Rattle.rules.specs.calls.Admit.{rejoins, mapBefore, mapAfter, fills, verdictOf, senderRows, senderAfter, admitted, notAdmitted, admission}
-use Rattle.rules.specs.calls.AdmitLaws.{Admitted, admitted-facts, rejoins-open, map-adds, fills-full}
+use Rattle.rules.specs.calls.AdmitLaws.{Admitted, admitted-facts, rejoins-open, map-adds, map-one-more, fills-full}
 use Rattle.rules.specs.calls.Clock.{drops, aged}
 use Rattle.rules.specs.calls.First.{first}
 use Rattle.rules.specs.calls.FirstLaws.{above, first-given, given-above}
@@ -186,11 +186,9 @@ module _ (last : Name) (now : ℕ) (packets : List (List ℕ)) (stamp : ℕ) (g 
     -- The map has a one for each packet accepted since it opened.
     pub held-with : ones (mapAfter (v .sender) (headOf p)) ≡ length (acceptedWith packets p)
     held-with =
-        rw (map-adds (g .n1) (v .sender) (headOf p) is-admitted, ← rejoins-same last now stamp v packets t p) (⊎-elim
-        (λ (r : rejoins (v .sender) (headOf p) ≡ true).
-        rw r (ones-set (headOf p .cut .cbn - 1) (v .sender .message .map) (holds-not _ (headOf p .cut .cbn) (is-admitted .new-piece r))
-        ∙ ap suc (t .same-held (rejoins-open (v .sender) (headOf p) r))))
-        (λ (r : rejoins (v .sender) (headOf p) ≡ false). rw r (unfold ones in ones-set (headOf p .cut .cbn - 1) 0 (bit-zero (headOf p .cut .cbn - 1))))
+        rw (map-one-more (g .n1) (v .sender) (headOf p) is-admitted, ← rejoins-same last now stamp v packets t p) (⊎-elim
+        (λ (r : rejoins (v .sender) (headOf p) ≡ true). rw r (ap suc (t .same-held (rejoins-open (v .sender) (headOf p) r))))
+        (λ (r : rejoins (v .sender) (headOf p) ≡ false). rw r (unfold ones in refl))
         (true-or-false (rejoins (v .sender) (headOf p))))
 
     -- "The message is delivered at the piece that fills the map": when as many were accepted as there are pieces.

@@ -1,8 +1,9 @@
 -- Laws of admission: what is known where no number of 15 to 20 applies. Assumes nothing.
 use mathlib.Core.Path.{_≡_, refl, sym, _∙_}
 use mathlib.Core.Bool.{Bool, true, false, not, cond, _&&_, _||_}
-use Prim.Native.Nat.{ℕ, _+_}
+use Prim.Native.Nat.{ℕ, suc, _+_, _-_}
 use native.Mathlib.Omega.{arith}
+use lib.Count.{ones}
 use lib.Dec.{eqb}
 use borrow.Author.Tests.{eq-eqb, ne-eqb, eqb-true, not-false}
 use Rattle.octets.specs.Split.{cond-case, never-both, and-left}
@@ -14,7 +15,7 @@ use Rattle.header.specs.declared.Head.{Head}
 use Rattle.cut.specs.Possible.{possible}
 use Rattle.cut.specs.PossibleLaws.{possible-facts, possible-most}
 use Rattle.map.specs.Map.{holds, pieceBit, fullMap}
-use Rattle.map.specs.MapLaws.{marked-adds, holds-zero, full-is}
+use Rattle.map.specs.MapLaws.{bit-zero, ones-set, marked-adds, holds-not, holds-zero, full-is}
 use Rattle.state.specs.declared.Sender.{Sender}
 use Rattle.answers.specs.declared.Admission.{Admission}
 use Rattle.answers.specs.declared.Dropped.{Dropped}
@@ -70,6 +71,14 @@ map-adds n1 s h a =
     let f = possible-facts (h .cut) (a .cut-possible) in
     marked-adds (mapBefore s h) c (omega (arith, possible-most (h .cut) (a .cut-possible)))
     (cond-case (λ (m : ℕ). holds m c ≡ false) (rejoins s h) (s .message .map) 0 (a .new-piece) (λ _. holds-zero c))
+
+-- So the map has one more.
+pub map-one-more : (n1 : ℕ) (s : Sender) (h : Head) → Admitted n1 s h → ones (mapAfter s h) ≡ suc (ones (mapBefore s h))
+map-one-more n1 s h a =
+    let c = h .cut .cbn in
+    rw (map-adds n1 s h a) (cond-case (λ (m : ℕ). ones (m + pieceBit c) ≡ suc (ones m)) (rejoins s h) (s .message .map) 0
+    (λ r. ones-set (c - 1) (s .message .map) (holds-not (s .message .map) c (a .new-piece r)))
+    (λ _. ones-set (c - 1) 0 (bit-zero (c - 1))))
 
 pub fills-full : (s : Sender) (h : Head) → fills s h ≡ eqb (mapAfter s h) (fullMap (h .cut .tbn))
 unfolding fills
