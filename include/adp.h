@@ -136,6 +136,11 @@ struct adp_ticked adp_clock(uint64_t *state, size_t words, uint64_t ms);
 /* Which piece is missing? */
 struct adp_missing adp_question(const uint64_t *state, size_t words);
 
+/* How many pieces of a sender are held? For a maintenance page; the sender by its place in the settings, from 0. It
+ * gives the number that the state keeps: nothing is counted and nothing refused, any words will do, and a 9 is nine
+ * pieces. 0 past the senders, and where nothing is open. */
+uint8_t adp_held(const uint64_t *state, size_t words, uint8_t place);
+
 /* Writes the PDU of one piece, from 1, of a message cut into pieces of `u` octets. Octets behind the PDU stay. */
 struct adp_cutting adp_cut(struct adp_given given, const uint8_t *message, size_t length, uint16_t u, uint8_t piece,
                            uint8_t *buffer, size_t room);

@@ -146,7 +146,7 @@ static void call_message(struct caller *c) {
             a.held, a.length, a.skipped, a.dropped_version, a.dropped_number, part_sum, storage_sum);
 }
 
-/* ---- alive signals, the clock, the question */
+/* ---- alive signals, the clock, the question, how many pieces are held */
 
 static void call_alive(struct caller *c) {
     const uint8_t *packet = lend_packet(c, 0);
@@ -179,6 +179,15 @@ static void call_question(struct caller *c) {
     take_state(c, missing.number);
     fprintf(c->out, "Q %u %u %u %u %u\n", missing.number, missing.open, missing.sender, missing.piece,
             by_ones(c, missing));
+}
+
+static void call_held(struct caller *c) {
+    need(c, c->length == 1, "a held call of a wrong length");
+    const uint64_t *state = lend_constant(&c->state_room, c->way, c->state, sizeof c->state);
+    uint8_t held = adp_held(state, ADP_STATE_WORDS, c->contents[0]);
+    /* What it gives is a count, and never a refusal. */
+    take_state(c, 0);
+    fprintf(c->out, "H %u\n", held);
 }
 
 /* ---- the cutter */
@@ -233,10 +242,10 @@ static void show_sender(struct caller *c, size_t i) {
     fprintf(c->out, "w %zu %" PRIu64 " %" PRIu64 " %" PRIu64 " %" PRIu64, i, s[OF_ADDRESS] >> 16,
             s[OF_ADDRESS] & 65535, s[OF_LAST] >> 32, s[OF_LAST] & 4294967295);
     fprintf(c->out, " %" PRIu64 " %" PRIu64 " %" PRIu64, s[OF_OPEN], s[OF_MESSAGE] >> 32, s[OF_MESSAGE] & 4294967295);
-    fprintf(c->out, " %" PRIu64 " %" PRIu64 " %" PRIu64 " %" PRIu64, cut >> 48, cut >> 32 & 65535, cut & 65535,
+    fprintf(c->out, " %" PRIu64 " %" PRIu64 " %" PRIu64 " %" PRIu64, cut >> 48, cut >> 32 & 65535, cut & 255,
             cut >> 16 & 65535);
-    fprintf(c->out, " %" PRIu64 " %" PRIu64 " %" PRIu64 " %" PRIu64 " %" PRIu64 "\n", s[OF_MAP], s[OF_STAMP],
-            s[OF_ALIVE], s[OF_HEARD], s[OF_TIMEOUT]);
+    fprintf(c->out, " %" PRIu64 " %" PRIu64 " %" PRIu64, s[OF_MAP], cut >> 8 & 255, s[OF_STAMP]);
+    fprintf(c->out, " %" PRIu64 " %" PRIu64 " %" PRIu64 "\n", s[OF_ALIVE], s[OF_HEARD], s[OF_TIMEOUT]);
 }
 
 static void show(struct caller *c) {
@@ -258,18 +267,19 @@ static void damage_settings(struct caller *c) {
 
 static void damage_sender(struct caller *c) {
     const uint8_t *octets = c->contents;
-    need(c, c->length == 57 && octets[0] < ADP_SENDERS, "a damage of a wrong length or place");
+    need(c, c->length == 58 && octets[0] < ADP_SENDERS, "a damage of a wrong length or place");
     uint64_t *s = c->state + word_of(octets[0], 0);
     s[OF_ADDRESS] = number_at(octets + 1, 1) << 16 | number_at(octets + 2, 2);
     s[OF_LAST] = number_at(octets + 4, 8);
     s[OF_OPEN] = octets[12] == 1;
     s[OF_MESSAGE] = number_at(octets + 13, 8);
-    s[OF_CUT] = number_at(octets + 21, 4) << 32 | number_at(octets + 26, 2) << 16 | octets[25];
+    s[OF_CUT] = number_at(octets + 21, 4) << 32 | number_at(octets + 26, 2) << 16 | number_at(octets + 36, 1) << 8 |
+                octets[25];
     s[OF_MAP] = number_at(octets + 28, 8);
-    s[OF_STAMP] = number_at(octets + 36, 8);
-    s[OF_ALIVE] = octets[44] == 1;
-    s[OF_HEARD] = number_at(octets + 45, 8);
-    s[OF_TIMEOUT] = number_at(octets + 53, 4);
+    s[OF_STAMP] = number_at(octets + 37, 8);
+    s[OF_ALIVE] = octets[45] == 1;
+    s[OF_HEARD] = number_at(octets + 46, 8);
+    s[OF_TIMEOUT] = number_at(octets + 54, 4);
 }
 
 /* ---- fields */
@@ -288,6 +298,7 @@ static void make_call(struct caller *c) {
     case 'A': case 'a': call_alive(c); break;
     case 'C': case 'c': call_clock(c); break;
     case 'Q': call_question(c); break;
+    case 'H': call_held(c); break;
     case 'K': call_cut(c); break;
     case 'W': show(c); break;
     case 't': damage_settings(c); break;

@@ -21,7 +21,7 @@ enum {
     OF_LAST = 1,    /* version * 2^32 + number */
     OF_OPEN = 2,    /* 1 where a message is open, otherwise 0 */
     OF_MESSAGE = 3, /* version * 2^32 + number */
-    OF_CUT = 4,     /* TCD * 2^48 + n * 2^32 + u * 2^16 + TBN */
+    OF_CUT = 4,     /* TCD * 2^48 + n * 2^32 + u * 2^16 + pieces held * 2^8 + TBN */
     OF_MAP = 5,
     OF_STAMP = 6,
     OF_ALIVE = 7, /* 1 where the sender is alive, otherwise 0 */

@@ -1,10 +1,11 @@
 /* Words that are no state, numbers of words that no state has, words that are never looked at, and NULL for what has no
- * octets: what the calls by value cannot be given. What must come back follows from 01's row 9 and from adp.h, and is
- * written out here.
+ * octets: what the calls by value cannot be given; and the number of pieces held, where it stands in the words. What
+ * must come back follows from 01's row 9, from 02's item 1 and from adp.h, and is written out here.
  *
  * Each call is made twice, with all that it is lent against the one and against the other inaccessible page; those with
  * NULL once. It prints how many calls it made. */
 #include "adp.h"
+#include "held.h"
 #include "layout.h"
 #include "octets.h"
 #include "room.h"
@@ -14,7 +15,7 @@
 #include <stdlib.h>
 #include <string.h>
 
-enum { MOST_WORDS = 2 * ADP_STATE_WORDS, ROOM = 2 * ADP_AREA, FILL = 170 };
+enum { ROOM = 2 * ADP_AREA, FILL = 170 };
 
 static const uint64_t ANY = UINT64_MAX;
 static const uint64_t HALF = (uint64_t)1 << 32;
@@ -66,6 +67,11 @@ static struct pdu piece(uint8_t field, uint16_t node, size_t n, size_t u, uint8_
     lay(made_of.octets + 24, 4, 2147483648);
     lay(made_of.octets + 40, 2, 1);
     return made_of;
+}
+
+/* The word of such a message's cut. */
+static uint64_t cut_word(uint64_t n, uint64_t u, uint64_t held, uint64_t tbn) {
+    return 65536 * HALF + n * HALF + u * 65536 + held * 256 + tbn;
 }
 
 static struct pdu signal_of(uint8_t field, uint16_t node, uint8_t mode) {
@@ -154,15 +160,18 @@ static void expect(const char *name, const struct call *c, const uint64_t *state
 
 /* ---- words that are no state */
 
-/* The calls that the past below takes: at its end, at the clock 1000, the first of two senders is alive and has piece 2
- * of four, and the second was not heard. */
+/* The calls that the past below takes: at its end, at the clock 1000, the first of two senders is alive and has pieces
+ * 2 and 4 of four, and the second is not alive and has pieces 1, 7 and 12 of twelve. */
 static struct call taken[KINDS];
 
+static struct call message(uint8_t field, uint16_t node, size_t n, size_t u, uint8_t number) {
+    return (struct call){.kind = MESSAGE, .pdu = piece(field, node, n, u, number)};
+}
+
 static void make_calls(void) {
-    struct pdu first = piece(1, 7, 4500, 1332, 1);
     taken[SETUP] = (struct call){.kind = SETUP, .settings = two_senders(16)};
-    taken[MESSAGE] = (struct call){.kind = MESSAGE, .pdu = first};
-    taken[TALLIED] = (struct call){.kind = TALLIED, .pdu = first};
+    taken[MESSAGE] = taken[TALLIED] = message(1, 7, 4500, 1332, 1);
+    taken[TALLIED].kind = TALLIED;
     taken[ALIVE] = (struct call){.kind = ALIVE, .pdu = signal_of(1, 7, 1)};
     taken[CLOCK] = (struct call){.kind = CLOCK, .ms = 1001};
     taken[QUESTION] = (struct call){.kind = QUESTION};
@@ -170,8 +179,10 @@ static void make_calls(void) {
 
 static void make_past(uint64_t *state) {
     struct call clock = {.kind = CLOCK, .ms = 1000};
-    struct call opens = {.kind = MESSAGE, .pdu = piece(1, 7, 4500, 1332, 2)};
-    const struct call *past[] = {&taken[SETUP], &clock, &taken[ALIVE], &opens};
+    struct call opens = message(1, 7, 4500, 1332, 2), joins = message(1, 7, 4500, 1332, 4);
+    struct call last = message(2, 9, 16384, 1396, 12), first = message(2, 9, 16384, 1396, 1);
+    struct call between = message(2, 9, 16384, 1396, 7);
+    const struct call *past[] = {&taken[SETUP], &clock, &taken[ALIVE], &opens, &last, &first, &joins, &between};
     memset(state, FILL, MOST_WORDS * sizeof *state);
     for (size_t i = 0; i < sizeof past / sizeof *past; i++)
         need_number(call_on(past[i], state, ADP_STATE_WORDS, AT_END, state), 0, "the past", KIND[past[i]->kind]);
@@ -182,9 +193,58 @@ static void make_past(uint64_t *state) {
     }
 }
 
+/* What setup makes of any words. */
+static void make_new(uint64_t *wanted) {
+    memset(wanted, 0, ADP_STATE_WORDS * sizeof *wanted);
+    wanted[WORD_N1] = 16;
+    wanted[WORD_T] = 15000;
+    wanted[WORD_COUNT] = 2;
+    wanted[word_of(0, OF_ADDRESS)] = 1 * 65536 + 7;
+    wanted[word_of(1, OF_ADDRESS)] = 2 * 65536 + 9;
+}
+
+/* What adp_held gives of the two senders; of nobody else a message is open. */
+static void kept(const char *name, const uint64_t *state, unsigned first, unsigned second) {
+    const uint8_t others[] = {2, 15, 16, 17, 255};
+    held_is(name, state, ADP_STATE_WORDS, 0, first);
+    held_is(name, state, ADP_STATE_WORDS, 1, second);
+    for (size_t i = 0; i < sizeof others; i++) held_is(name, state, ADP_STATE_WORDS, others[i], 0);
+}
+
+/* The words that the past leaves, and those that one more piece leaves. */
+static void test_past(const uint64_t *state) {
+    uint64_t wanted[ADP_STATE_WORDS];
+    uint64_t *first = wanted + word_of(0, 0), *second = wanted + word_of(1, 0);
+    make_new(wanted);
+    wanted[WORD_CLOCK] = first[OF_STAMP] = first[OF_HEARD] = second[OF_STAMP] = 1000;
+    first[OF_OPEN] = first[OF_ALIVE] = second[OF_OPEN] = 1;
+    first[OF_MESSAGE] = second[OF_MESSAGE] = 5 * HALF + 100;
+    first[OF_CUT] = cut_word(4500, 1332, 2, 4);
+    first[OF_MAP] = 2 + 8;
+    first[OF_TIMEOUT] = 60;
+    second[OF_CUT] = cut_word(16384, 1396, 3, 12);
+    second[OF_MAP] = 1 + 64 + 2048;
+    expect("the past", &taken[QUESTION], state, ADP_STATE_WORDS, 0, wanted);
+    kept("the past", state, 2, 3);
+    first[OF_CUT] = cut_word(4500, 1332, 3, 4);
+    first[OF_MAP] = 1 + 2 + 8;
+    expect("one piece more", &taken[MESSAGE], state, ADP_STATE_WORDS, 0, wanted);
+    expect("one piece more", &taken[TALLIED], state, ADP_STATE_WORDS, 0, wanted);
+    kept("one piece more", wanted, 3, 3);
+}
+
 /* Every call but setup answers 9 and changes nothing. */
 static void all_nine(const char *name, const uint64_t *state, size_t words) {
     for (int kind = MESSAGE; kind < KINDS; kind++) expect(name, &taken[kind], state, words, 9, state);
+}
+
+/* Setup makes such words a state, and adp_held gives what is kept in them, all the same. */
+static void no_state(const char *name, const uint64_t *words, unsigned first, unsigned second) {
+    uint64_t wanted[ADP_STATE_WORDS];
+    all_nine(name, words, ADP_STATE_WORDS);
+    make_new(wanted);
+    expect(name, &taken[SETUP], words, ADP_STATE_WORDS, 0, wanted);
+    kept(name, words, first, second);
 }
 
 struct damage {
@@ -193,55 +253,83 @@ struct damage {
     uint64_t value;
 };
 
-static void test_damages(const uint64_t *state, const struct damage *damages, size_t count) {
+/* With what adp_held then gives of the two senders. */
+static void test_damages(const uint64_t *state, const struct damage *damages, size_t count, unsigned first,
+                         unsigned second) {
     for (size_t i = 0; i < count; i++) {
         uint64_t damaged[MOST_WORDS];
         memcpy(damaged, state, sizeof damaged);
         damaged[damages[i].word] = damages[i].value;
-        all_nine(damages[i].name, damaged, ADP_STATE_WORDS);
+        no_state(damages[i].name, damaged, first, second);
     }
 }
 
-/* No field can hold these, or 01's limits are below them; of most, the octets that the value was to have are those that
- * it had. */
+/* No field can hold these, or 01's limits are below or above them; of most, the octets that the value was to have are
+ * those that it had. */
 static void test_settings(const uint64_t *state) {
     const struct damage damages[] = {
         {"a test flag of 2", WORD_TEST, 2}, {"a test flag of 256", WORD_TEST, 256},
         {"a test flag of 2^32", WORD_TEST, HALF}, {"a test flag of 2^64 - 1", WORD_TEST, ANY},
-        {"N1 65,552", WORD_N1, 65536 + 16}, {"N1 2^32 + 16", WORD_N1, HALF + 16},
-        {"T 2^32 + 15,000", WORD_T, HALF + 15000}, {"T 2^63 + 15,000", WORD_T, (HALF << 31) + 15000},
+        {"N1 0", WORD_N1, 0}, {"N1 65,552", WORD_N1, 65536 + 16}, {"N1 2^32 + 16", WORD_N1, HALF + 16},
+        {"T 0", WORD_T, 0}, {"T 2^32 + 15,000", WORD_T, HALF + 15000},
+        {"T 2^63 + 15,000", WORD_T, (HALF << 31) + 15000},
         {"a clock of 2^40 + 1", WORD_CLOCK, (HALF << 8) + 1}, {"a clock of 2^64 - 1", WORD_CLOCK, ANY},
-        {"no senders, and not the empty state", WORD_COUNT, 0},
         {"a count of 17", WORD_COUNT, 17}, {"a count of 258", WORD_COUNT, 256 + 2},
         {"a count of 300", WORD_COUNT, 300}, {"a count of 2^32 + 2", WORD_COUNT, HALF + 2},
         {"a count of 2^64 - 1", WORD_COUNT, ANY},
     };
-    test_damages(state, damages, sizeof damages / sizeof *damages);
+    const struct damage nobody = {"no senders, and not the empty state", WORD_COUNT, 0};
+    test_damages(state, damages, sizeof damages / sizeof *damages, 2, 3);
+    test_damages(state, &nobody, 1, 0, 0);
 }
 
 /* Likewise, of senders below the count. */
 static void test_senders(const uint64_t *state) {
-    const size_t address = word_of(0, OF_ADDRESS), opened = word_of(0, OF_OPEN), cut = word_of(0, OF_CUT);
+    const size_t address = word_of(0, OF_ADDRESS), second = word_of(1, OF_ADDRESS), last = word_of(0, OF_LAST);
     const size_t alive = word_of(0, OF_ALIVE), timeout = word_of(0, OF_TIMEOUT);
     const struct damage damages[] = {
+        {"data field 0", address, 7}, {"node 4,096", address, 65536 + 4096},
         {"an address of 2^24", address, 1 << 24}, {"data field 257", address, (1 << 24) + 65536 + 7},
         {"an address of 2^32 + 65,543", address, HALF + 65536 + 7},
-        {"the second address 2^24", word_of(1, OF_ADDRESS), 1 << 24},
-        {"the second data field 258", word_of(1, OF_ADDRESS), (1 << 24) + 2 * 65536 + 9},
-        {"the second address again the first", word_of(1, OF_ADDRESS), 65536 + 7},
-        {"an open flag of 2", opened, 2}, {"an open flag of 257", opened, 256 + 1},
-        {"an open flag of 2^32 + 1", opened, HALF + 1}, {"an open flag of 2^64 - 1", opened, ANY},
-        {"the second open flag 2", word_of(1, OF_OPEN), 2},
-        {"the second open flag 2^63", word_of(1, OF_OPEN), HALF << 31},
+        {"the second address 2^24", second, 1 << 24},
+        {"the second data field 258", second, (1 << 24) + 2 * 65536 + 9},
+        {"the second address again the first", second, 65536 + 7},
+        {"the last number 2^31", last, 5 * HALF + HALF / 2}, {"the last number 0 of version 5", last, 5 * HALF},
         {"an alive flag of 2", alive, 2}, {"an alive flag of 257", alive, 256 + 1},
         {"an alive flag of 2^32 + 1", alive, HALF + 1}, {"an alive flag of 2^64 - 1", alive, ANY},
         {"the second alive flag 2", word_of(1, OF_ALIVE), 2},
         {"the second alive flag 2^63", word_of(1, OF_ALIVE), HALF << 31},
+        {"heard after the clock", word_of(0, OF_HEARD), 1001},
         {"al_tm_out 2^32", timeout, HALF}, {"al_tm_out 2^32 + 60", timeout, HALF + 60},
         {"al_tm_out 2^64 - 1", timeout, ANY},
-        {"TBN 260", cut, state[cut] + 256}, {"TBN 32,772", cut, state[cut] + 32768},
     };
-    test_damages(state, damages, sizeof damages / sizeof *damages);
+    test_damages(state, damages, sizeof damages / sizeof *damages, 2, 3);
+}
+
+/* A flag that is not 1 is of no open message, and adp_held gives 0. */
+static void test_open_flags(const uint64_t *state) {
+    const size_t opened = word_of(0, OF_OPEN);
+    const struct damage first[] = {
+        {"an open flag of 2", opened, 2}, {"an open flag of 257", opened, 256 + 1},
+        {"an open flag of 2^32 + 1", opened, HALF + 1}, {"an open flag of 2^64 - 1", opened, ANY},
+    };
+    const struct damage second[] = {
+        {"the second open flag 2", word_of(1, OF_OPEN), 2},
+        {"the second open flag 2^63", word_of(1, OF_OPEN), HALF << 31},
+    };
+    test_damages(state, first, sizeof first / sizeof *first, 0, 3);
+    test_damages(state, second, sizeof second / sizeof *second, 2, 0);
+}
+
+/* 01's limits of an open message, but for its cut and its map. */
+static void test_open_messages(const uint64_t *state) {
+    const struct damage damages[] = {
+        {"SEQ 0 of the open message", word_of(0, OF_MESSAGE), 5 * HALF},
+        {"code 60,000 of the open message", word_of(0, OF_CUT), cut_word(4500, 1332, 2, 4) + 59999 * HALF * 65536},
+        {"a stamp after the clock", word_of(0, OF_STAMP), 1001},
+        {"the second stamp after the clock", word_of(1, OF_STAMP), 1001},
+    };
+    test_damages(state, damages, sizeof damages / sizeof *damages, 2, 3);
 }
 
 /* The words are a state, with more behind them or less. Setup gets others, which no setup would write. */
@@ -268,12 +356,10 @@ static void test_setup(void) {
     wanted[WORD_N1] = 1;
     wanted[WORD_T] = 1;
     expect("the empty state", &refused, junk, ADP_STATE_WORDS, 10, wanted);
-    wanted[WORD_N1] = 16;
-    wanted[WORD_T] = 15000;
-    wanted[WORD_COUNT] = 2;
-    wanted[word_of(0, OF_ADDRESS)] = 1 * 65536 + 7;
-    wanted[word_of(1, OF_ADDRESS)] = 2 * 65536 + 9;
+    kept("the empty state", wanted, 0, 0);
+    make_new(wanted);
     expect("a new state", &taken[SETUP], junk, ADP_STATE_WORDS, 0, wanted);
+    kept("a new state", wanted, 0, 0);
 }
 
 /* ---- what is never looked at */
@@ -320,20 +406,22 @@ static void junk_of_alive(const uint64_t *state) {
  * and its al_tm_out, of one who is not alive, stay. */
 static void junk_of_messages(const uint64_t *state) {
     uint64_t wanted[ADP_STATE_WORDS];
-    struct call one = {.kind = MESSAGE, .pdu = piece(2, 9, 10, 256, 1)};
+    struct call one = message(2, 9, 10, 256, 1), unknown = message(1, 9, 10, 256, 1);
     struct call two = {.kind = TALLIED, .pdu = piece(2, 9, 300, 256, 2)};
-    struct call unknown = {.kind = MESSAGE, .pdu = piece(1, 9, 10, 256, 1)};
     memcpy(wanted, state, sizeof wanted);
+    kept("junk", state, 0, 0);
     for (size_t which = OF_MESSAGE; which <= OF_STAMP; which++) wanted[word_of(1, which)] = 0;
     wanted[word_of(1, OF_LAST)] = 5 * HALF + 100;
     expect("junk", &one, state, ADP_STATE_WORDS, 1, wanted);
+    kept("junk", wanted, 0, 0);
     wanted[word_of(1, OF_LAST)] = 0;
     wanted[word_of(1, OF_MESSAGE)] = 5 * HALF + 100;
-    wanted[word_of(1, OF_CUT)] = 65536 * HALF + 300 * HALF + 256 * 65536 + 2;
+    wanted[word_of(1, OF_CUT)] = cut_word(300, 256, 1, 2);
     wanted[word_of(1, OF_MAP)] = 2;
     wanted[word_of(1, OF_STAMP)] = 1000;
     wanted[word_of(1, OF_OPEN)] = 1;
     expect("junk", &two, state, ADP_STATE_WORDS, 0, wanted);
+    kept("junk", wanted, 0, 1);
     expect("junk", &unknown, state, ADP_STATE_WORDS, 14, state);
 }
 
@@ -350,6 +438,7 @@ static void junk_of_nobody(void) {
     expect("no senders", &taken[MESSAGE], state, ADP_STATE_WORDS, 11, state);
     expect("no senders", &taken[TALLIED], state, ADP_STATE_WORDS, 11, state);
     expect("no senders", &taken[ALIVE], state, ADP_STATE_WORDS, 14, state);
+    kept("no senders", state, 0, 0);
 }
 
 /* Whether the words are a state: the question and the clock, 1 ms later, are answered, and nothing is too old. */
@@ -361,12 +450,12 @@ static void passes(const char *name, const uint64_t *state) {
     expect(name, &taken[CLOCK], state, ADP_STATE_WORDS, 0, wanted);
 }
 
-/* Of a sender who is open and not alive, or alive and not open. */
+/* Of a sender who is not alive, or has nothing open. */
 static void junk_of_one(const uint64_t *past) {
     uint64_t state[MOST_WORDS];
     memcpy(state, past, sizeof state);
     state[word_of(1, OF_TIMEOUT)] = HALF;
-    passes("al_tm_out 2^32 of a sender never heard", state);
+    passes("al_tm_out 2^32 of a sender who is not alive", state);
     state[word_of(0, OF_ALIVE)] = 0;
     state[word_of(0, OF_HEARD)] = state[word_of(0, OF_TIMEOUT)] = ANY;
     passes("junk where a sender was heard who is not alive", state);
@@ -385,6 +474,108 @@ static void test_junk(const uint64_t *past) {
     junk_of_messages(state);
     junk_of_nobody();
     junk_of_one(past);
+}
+
+/* ---- the number of pieces held */
+
+/* An open message of code 1: what the word of its cut holds, and its map. */
+struct cut {
+    const char *name;
+    uint64_t n, u, held, tbn, map;
+};
+
+static void with_cut(uint64_t *state, const uint64_t *past, size_t sender, const struct cut *c) {
+    memcpy(state, past, MOST_WORDS * sizeof *state);
+    state[word_of(sender, OF_CUT)] = cut_word(c->n, c->u, c->held, c->tbn);
+    state[word_of(sender, OF_MAP)] = c->map;
+}
+
+/* 02: in an open record the number kept is the number of ones in the map. The word of the cut has an octet for it and
+ * one for TBN; what it held before the number was kept, 0 and TBN, is no open message. */
+static void test_kept(const uint64_t *past) {
+    const struct cut first[] = {
+        {"0 kept of 2, as before the number was kept", 4500, 1332, 0, 4, 2 + 8},
+        {"1 kept of 2", 4500, 1332, 1, 4, 2 + 8}, {"3 kept of 2", 4500, 1332, 3, 4, 2 + 8},
+        {"4 kept of 2, as many as TBN", 4500, 1332, 4, 4, 2 + 8},
+        {"10 kept of 2, which is the map", 4500, 1332, 10, 4, 2 + 8},
+        {"130 kept of 2, by one bit", 4500, 1332, 130, 4, 2 + 8}, {"255 kept of 2", 4500, 1332, 255, 4, 2 + 8},
+        {"2 kept of 1", 4500, 1332, 2, 4, 8}, {"2 kept of 3", 4500, 1332, 2, 4, 2 + 4 + 8},
+        {"62 kept of 63", 16384, 256, 62, 64, ANY - 1}, {"64 kept of 63", 16384, 256, 64, 64, ANY - 1},
+        {"the number kept and TBN in each other's place", 4500, 1332, 4, 2, 2 + 8},
+    };
+    const struct cut second[] = {
+        {"the second's 0 kept of 3", 16384, 1396, 0, 12, 1 + 64 + 2048},
+        {"the second's 2 kept of 3", 16384, 1396, 2, 12, 1 + 64 + 2048},
+        {"the second's 4 kept of 3", 16384, 1396, 4, 12, 1 + 64 + 2048},
+        {"the second's 255 kept of 3", 16384, 1396, 255, 12, 1 + 64 + 2048},
+    };
+    uint64_t state[MOST_WORDS];
+    for (size_t i = 0; i < sizeof first / sizeof *first; i++) {
+        with_cut(state, past, 0, &first[i]);
+        no_state(first[i].name, state, (unsigned)first[i].held, 3);
+    }
+    for (size_t i = 0; i < sizeof second / sizeof *second; i++) {
+        with_cut(state, past, 1, &second[i]);
+        no_state(second[i].name, state, 2, (unsigned)second[i].held);
+    }
+}
+
+/* The number kept is right, and the cut or the map is not. */
+static void test_cuts(const uint64_t *past) {
+    const struct cut cuts[] = {
+        {"TBN 0", 4500, 1332, 2, 0, 2 + 8}, {"TBN 1", 4500, 1332, 2, 1, 2 + 8}, {"TBN 3", 4500, 1332, 2, 3, 1 + 2},
+        {"TBN 5", 4500, 1332, 2, 5, 2 + 8}, {"TBN 132, by one bit", 4500, 1332, 2, 132, 2 + 8},
+        {"TBN 255", 4500, 1332, 2, 255, 2 + 8}, {"n 3,996", 3996, 1332, 2, 4, 2 + 8},
+        {"u 255", 1000, 255, 2, 4, 2 + 8}, {"no piece held", 4500, 1332, 0, 4, 0},
+        {"all pieces held", 4500, 1332, 4, 4, 15}, {"piece 5 of 4 held", 4500, 1332, 2, 4, 2 + 16},
+    };
+    uint64_t state[MOST_WORDS];
+    for (size_t i = 0; i < sizeof cuts / sizeof *cuts; i++) {
+        with_cut(state, past, 0, &cuts[i]);
+        no_state(cuts[i].name, state, (unsigned)cuts[i].held, 3);
+    }
+}
+
+/* What differs from some of those above in the number kept, or in the map, alone. */
+static void test_rightly_kept(const uint64_t *past) {
+    const struct cut cuts[] = {
+        {"1 kept of 1", 4500, 1332, 1, 4, 8}, {"2 kept of 2", 4500, 1332, 2, 4, 2 + 8},
+        {"3 kept of 3", 4500, 1332, 3, 4, 2 + 4 + 8}, {"63 kept of 63", 16384, 256, 63, 64, ANY - 1},
+    };
+    uint64_t state[MOST_WORDS];
+    for (size_t i = 0; i < sizeof cuts / sizeof *cuts; i++) {
+        with_cut(state, past, 0, &cuts[i]);
+        passes(cuts[i].name, state);
+        kept(cuts[i].name, state, (unsigned)cuts[i].held, 3);
+    }
+}
+
+/* Where nothing is open, any number may stand; the message that opens there is not counted from it. */
+static void test_closed(const uint64_t *past) {
+    const uint64_t numbers[] = {0, 1, 2, 3, 130, 255};
+    for (size_t i = 0; i < sizeof numbers / sizeof *numbers; i++) {
+        const struct cut old = {"a number kept where nothing is open", 4500, 1332, numbers[i], 4, 2 + 8};
+        const struct cut opened = {old.name, 4500, 1332, 1, 4, 1};
+        uint64_t state[MOST_WORDS], wanted[MOST_WORDS];
+        with_cut(state, past, 0, &old);
+        state[word_of(0, OF_OPEN)] = 0;
+        passes(old.name, state);
+        expect(old.name, &taken[ALIVE], state, ADP_STATE_WORDS, 0, state);
+        kept(old.name, state, 0, 3);
+        with_cut(wanted, past, 0, &opened);
+        expect(old.name, &taken[MESSAGE], state, ADP_STATE_WORDS, 0, wanted);
+        kept(old.name, wanted, 1, 3);
+    }
+}
+
+/* Past the senders likewise, though a message is open there. */
+static void test_past_the_count(const uint64_t *past) {
+    const struct cut wrong = {"255 kept of 3 past the senders", 16384, 1396, 255, 12, 1 + 64 + 2048};
+    uint64_t state[MOST_WORDS];
+    with_cut(state, past, 1, &wrong);
+    state[WORD_COUNT] = 1;
+    passes(wrong.name, state);
+    kept(wrong.name, state, 2, 0);
 }
 
 /* ---- NULL */
@@ -448,14 +639,23 @@ int main(void) {
     memset(storage, FILL, sizeof storage);
     make_calls();
     make_past(state);
+    test_past(state);
     test_settings(state);
     test_senders(state);
+    test_open_flags(state);
+    test_open_messages(state);
     test_numbers_of_words(state);
     test_setup();
     test_junk(state);
+    test_kept(state);
+    test_cuts(state);
+    test_rightly_kept(state);
+    test_closed(state);
+    test_past_the_count(state);
+    test_held();
     null_words();
     null_octets(state);
     null_cut();
-    printf("%lu\n", made);
+    printf("%lu\n", made + held_calls());
     return 0;
 }

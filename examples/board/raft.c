@@ -33,7 +33,6 @@ struct stream {
 /* What the maintenance page shows and the state does not tell: the library answers once, at the call. */
 struct page {
     bool alive[SENDERS];
-    uint8_t held[SENDERS];
     uint32_t delivered[VERDICTS], refused[NUMBERS], signals[NUMBERS];
     uint32_t dropped, out_of_step;
     uint32_t tally[2];
@@ -137,7 +136,6 @@ static void say_packet(const uint8_t *packet) {
 static void take_message(struct raft *r, const uint8_t *packet, size_t size) {
     struct adp_answer answer = adp_message_tallied(r->state, ADP_STATE_WORDS, r->storage, sizeof r->storage, packet,
                                                    size, r->page.tally);
-    size_t sender = sender_of(r, packet);
     if (answer.dropped_number != 0) {
         r->page.dropped++;
         printf("raft: dropped %" PRIu32 "-%" PRIu32 ": a newer message came\n", answer.dropped_version,
@@ -150,8 +148,6 @@ static void take_message(struct raft *r, const uint8_t *packet, size_t size) {
         r->page.refused[answer.number]++;
         return;
     }
-    /* What was not refused with 14 is from a sender of the table. */
-    r->page.held[sender] = answer.held;
     if (answer.number == ADP_DELIVERED) {
         delivered(r, packet, &answer);
     } else {
@@ -199,7 +195,6 @@ static void tick(struct raft *r) {
     for (size_t i = 0; i < SENDERS; i++) {
         if (ticked.dropped >> i & 1) {
             r->page.dropped++;
-            r->page.held[i] = 0;
             printf("raft: dropped what was open of ");
             name_sender(r, i);
             printf(": no piece for %" PRIu32 " ms\n", r->settings.t);
@@ -224,7 +219,8 @@ static void show_page(const struct raft *r) {
     for (size_t i = 0; i < SENDERS; i++) {
         printf("page: ");
         name_sender(r, i);
-        printf(" %s, %d held\n", r->page.alive[i] ? "alive" : "dead", r->page.held[i]);
+        printf(" %s, %d held\n", r->page.alive[i] ? "alive" : "dead",
+               adp_held(r->state, ADP_STATE_WORDS, (uint8_t)i));
     }
     printf("page: ");
     say_missing(r);

@@ -5,8 +5,8 @@ use std::collections::BTreeMap;
 /// Reads printed lines, of a run or of the edges, and gives "KIND NUMBER COUNT"
 /// lines, sorted. The kinds are the lines' own letters (A, C, E, F, K, P, Q, S)
 /// and V for the verdict of a P line; F is counted under its `next`, E, which
-/// bears no number, under 0. Titles, states, the cutter's octets and parts (#, W,
-/// w, k, R) bear no answer's number and are passed over.
+/// bears no number, under 0. Titles, states, kept counts, the cutter's octets and
+/// parts (#, W, w, H, k, R) bear no answer's number and are passed over.
 pub fn counts(lines: &str) -> Result<String, String> {
     let mut counts: BTreeMap<(char, u64), u64> = BTreeMap::new();
     for (at, line) in lines.lines().enumerate() {
@@ -39,7 +39,8 @@ fn kinds_of(line: &str) -> Option<Vec<(char, u64)>> {
         ("A", [answer]) => Some(vec![('A', *answer)]),
         ("Q", [answer, _, _, _, _]) => Some(vec![('Q', *answer)]),
         ("W", state) if state.len() == 5 => Some(Vec::new()),
-        ("w", sender) if sender.len() == 17 => Some(Vec::new()),
+        ("w", sender) if sender.len() == 18 => Some(Vec::new()),
+        ("H", [_]) => Some(Vec::new()),
         ("K", [answer, _, _, _]) => Some(vec![('K', *answer)]),
         ("k", octets) if octets.len() == 64 => Some(Vec::new()),
         ("R", [_, _]) => Some(Vec::new()),
@@ -63,9 +64,12 @@ mod tests {
     #[test]
     fn counts_the_lines_of_the_edges() {
         let lines = "# 1.1 A title: P 1\nP 1 4 0 10 2 0 0 7 9\nP 9 0 0 0 0 0 0 7 7\nQ 9 0 0 0 0\n\
-                     Q 0 1 0 2 2\nW 0 16 15000 0 1\nw 0 1 7 0 0 0 0 0 0 0 0 0 0 0 0 0 0\n";
+                     Q 0 1 0 2 2\nW 0 16 15000 0 1\nw 0 1 7 0 0 0 0 0 0 0 0 0 0 0 0 0 0 0\n";
         let expected = "P 1 1\nP 9 1\nQ 0 1\nQ 9 1\nV 0 1\nV 4 1\n";
         assert_eq!(counts(lines).unwrap(), expected);
+        let held = "H 0\nH 63\nH 255\n";
+        assert_eq!(counts(&[lines, held].concat()).unwrap(), expected);
+        assert_eq!(counts(held).unwrap(), "");
     }
 
     #[test]
@@ -83,6 +87,10 @@ mod tests {
         let runs = ["P 1 1 0", "Q 1", "S", "S x", "", "C 0 0 0 0", "E 1", "S  0"];
         let edges = ["P 1 1 0 0 0 0 0 7", "#", "W 0 16 15000 0", "w 0 1 7", "W"];
         let more = [
+            "H",
+            "H 0 0",
+            "H x",
+            "h 0",
             "K 0 64 9",
             "k 1 2 3",
             "R 0",

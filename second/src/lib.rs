@@ -2,7 +2,8 @@
 //!
 //! It was written from the papers, to be compared line by line with the proved
 //! one, and takes nothing from the other's code. "01" is the paper `01-scope.md`,
-//! "001" the English ADP R3.0; words between quotation marks are theirs.
+//! "02" the paper `02-change-requests.md`, "001" the English ADP R3.0; words
+//! between quotation marks are theirs.
 
 pub mod alive;
 pub mod answers;

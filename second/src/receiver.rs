@@ -208,10 +208,12 @@ fn admit_piece(
     }
     lay_piece(&mut storage[at * AREA..(at + 1) * AREA], cut, octets);
     sender.message.map |= bit(head.cbn);
+    // The piece was not held before (20), so there is one more.
+    sender.message.held += 1;
     // "A fragment that is stored sets the message's stamp to the clock."
     sender.message.stamp = clock;
     let mut answer = MessageAnswer {
-        held: sender.message.map.count_ones(),
+        held: sender.message.held.into(),
         dropped_version,
         dropped_number,
         ..MessageAnswer::bare(STORED)
@@ -239,7 +241,7 @@ fn drop_other(sender: &mut Sender, head: &Head) -> (u32, u32) {
 }
 
 /// 01: "nothing open, it opens", "kept with V_SEQ, SEQ, TCD, n, TBN, u and a
-/// 64-bit map of pieces held".
+/// 64-bit map of pieces held". No piece is held yet.
 fn open(sender: &mut Sender, head: &Head, cut: Cut) {
     sender.open = true;
     sender.message = OpenMessage {
@@ -250,6 +252,7 @@ fn open(sender: &mut Sender, head: &Head, cut: Cut) {
         tbn: head.tbn,
         u: cut.u,
         map: 0,
+        held: 0,
         stamp: 0,
     };
 }

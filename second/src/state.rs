@@ -15,7 +15,9 @@ pub const CLOCK_MOST: u64 = 1_099_511_627_776;
 
 /// 01: "A sender has at most one open message, kept with V_SEQ, SEQ, TCD, n,
 /// TBN, u and a 64-bit map of pieces held, piece c at bit c - 1, bit 0 lowest."
-/// The stamp is the clock of the fragment stored last.
+/// How many are held is kept beside the map. 02: "Every call keeps it equal to
+/// the number of ones in the map". The stamp is the clock of the fragment stored
+/// last.
 #[derive(Clone, Debug, Default, PartialEq, Eq)]
 pub struct OpenMessage {
     pub version: u32,
@@ -25,6 +27,7 @@ pub struct OpenMessage {
     pub tbn: u8,
     pub u: u16,
     pub map: u64,
+    pub held: u8,
     pub stamp: u64,
 }
 
@@ -88,6 +91,18 @@ impl Receiver {
         self.senders
             .iter()
             .position(|sender| (sender.field, sender.node) == (field, node))
+    }
+
+    /// 02: "The maintenance page asks twice a second how many pieces each sender
+    /// has". The number kept for the sender at a place, from 0; 0 past the senders
+    /// and where nothing is open. It is only read: nothing is counted, and no 9 is
+    /// judged, so that a state outside its limits is answered too. There is no
+    /// place past 01's 16, whatever the count says.
+    pub fn held(&self, place: usize) -> u8 {
+        match self.senders.iter().take(SENDERS_MOST).nth(place) {
+            Some(sender) if sender.open => sender.message.held,
+            _ => 0,
+        }
     }
 }
 
@@ -159,7 +174,8 @@ fn senders_right(senders: &[(u8, u16)]) -> bool {
 /// state with a setting, sender, time, last number, open SEQ or open code
 /// outside this paper's limits, a stamp after the clock, last number 0 under a
 /// version not 0, or an open message with an impossible cut or a map that is
-/// empty, full or marked past TBN".
+/// empty, full or marked past TBN". And by 02, of the number kept and the number
+/// of ones in the map: "a state where they differ meets 9".
 pub fn within_limits(receiver: &Receiver) -> bool {
     settings_right(receiver)
         && receiver.clock <= CLOCK_MOST
@@ -205,6 +221,7 @@ fn open_message_right(message: &OpenMessage, clock: u64) -> bool {
         && message.stamp <= clock
         && open_cut_possible(message)
         && open_map_right(message)
+        && open_held_right(message)
 }
 
 /// A message of several pieces can be cut so: n at most 16,384, u 256 to 1,396
@@ -219,6 +236,12 @@ fn open_cut_possible(message: &OpenMessage) -> bool {
 fn open_map_right(message: &OpenMessage) -> bool {
     let full = full_map(message.tbn);
     message.map != 0 && message.map != full && message.map & !full == 0
+}
+
+/// 01: "How many pieces are held is the count of ones in the map." 02 has the
+/// number kept, and "a state where they differ meets 9".
+fn open_held_right(message: &OpenMessage) -> bool {
+    u32::from(message.held) == message.map.count_ones()
 }
 
 /// 01: "piece c at bit c - 1, bit 0 lowest." No bit for a piece outside 1 to 64.
@@ -332,6 +355,7 @@ mod tests {
             tbn: 4,
             u: 1_332,
             map: 0b0101,
+            held: 2,
             stamp: 1_000,
         };
         let second = &mut receiver.senders[1];
@@ -344,6 +368,15 @@ mod tests {
         let mut receiver = busy();
         change(&mut receiver);
         within_limits(&receiver)
+    }
+
+    /// Does it pass with this open message's n, TBN and u, map and count?
+    fn passes_with(cut: (u16, u8, u16), map: u64, held: u8) -> bool {
+        passes(&|r| {
+            let open = &mut r.senders[0].message;
+            (open.n, open.tbn, open.u) = cut;
+            (open.map, open.held) = (map, held);
+        })
     }
 
     #[test]
@@ -447,46 +480,123 @@ mod tests {
         assert!(!passes(&|m| m.n = 3_996) && passes(&|m| m.n = 3_997));
         assert!(passes(&|m| m.n = 5_328) && !passes(&|m| m.n = 5_329));
         assert!(!passes(&|m| m.tbn = 3) && !passes(&|m| m.tbn = 5));
-        assert!(!passes(&|m| (m.n, m.tbn, m.u, m.map) = (510, 2, 255, 1)));
-        assert!(passes(&|m| (m.n, m.tbn, m.u, m.map) = (512, 2, 256, 1)));
-        assert!(passes(&|m| (m.n, m.tbn, m.u, m.map) = (2_792, 2, 1_396, 1)));
-        assert!(!passes(&|m| (m.n, m.tbn, m.u, m.map) = (2_794, 2, 1_397, 1)));
-        assert!(passes(
-            &|m| (m.n, m.tbn, m.u, m.map) = (16_384, 12, 1_396, 1)
-        ));
-        assert!(!passes(
-            &|m| (m.n, m.tbn, m.u, m.map) = (16_385, 12, 1_396, 1)
-        ));
-        for map in 0..4 {
-            assert!(!passes(&|m| (m.n, m.tbn, m.u, m.map) = (300, 1, 300, map)));
+        // Piece 1 is held of each of these.
+        let cut = |n, tbn, u| passes_with((n, tbn, u), 1, 1);
+        assert!(!cut(510, 2, 255) && cut(512, 2, 256));
+        assert!(cut(2_792, 2, 1_396) && !cut(2_794, 2, 1_397));
+        assert!(cut(16_384, 12, 1_396) && !cut(16_385, 12, 1_396));
+        for (map, held) in [(0, 0), (1, 1), (2, 1), (3, 2)] {
+            assert!(!passes_with((300, 1, 300), map, held), "{map}");
         }
     }
 
     #[test]
     fn row_9_map_empty_full_or_past_tbn() {
-        let passes = |change: &dyn Fn(&mut OpenMessage)| {
-            passes(&|r: &mut Receiver| change(&mut r.senders[0].message))
+        let four = |map, held| passes_with((4_500, 4, 1_332), map, held);
+        assert!(!four(0, 0) && four(1, 1));
+        assert!(!four(0b1111, 4) && four(0b0111, 3));
+        assert!(!four(0b1_0001, 2) && four(0b1000, 1));
+        assert!(!four(1 << 63 | 1, 2));
+        let widest = |map, held| passes_with((16_384, 64, 256), map, held);
+        assert!(widest(1 << 63, 1) && widest(u64::MAX - 1, 63));
+        assert!(!widest(u64::MAX, 64) && !widest(0, 0));
+    }
+
+    /// 02: "a state where they differ meets 9".
+    #[test]
+    fn row_9_held_unlike_the_ones_of_the_map() {
+        let four = |map, held| passes_with((4_500, 4, 1_332), map, held);
+        assert!(!four(0b0010, 0) && four(0b0010, 1) && !four(0b0010, 2));
+        assert!(!four(0b0110, 1) && four(0b0110, 2) && !four(0b0110, 3));
+        assert!(!four(0b1011, 2) && four(0b1011, 3) && !four(0b1011, 4));
+        assert!(!four(0b0010, 255) && !four(0b1011, 0));
+        // 64 + 1 and 128 + 1 would be 1 in fewer bits.
+        assert!(!four(0b0001, 65) && !four(0b0001, 129));
+        let widest = |map, held| passes_with((16_384, 64, 256), map, held);
+        let all_but_piece_1 = u64::MAX - 1;
+        assert!(!widest(all_but_piece_1, 62) && !widest(all_but_piece_1, 64));
+        assert!(widest(all_but_piece_1, 63) && widest(u64::MAX >> 1, 63));
+        assert!(!widest(1 << 63, 0) && !widest(1 << 63, 64));
+    }
+
+    /// One sender's count that differs is enough, wherever that sender stands.
+    #[test]
+    fn row_9_held_of_any_open_sender() {
+        let both_open = |first: u8, last: u8| {
+            passes(&|r| {
+                r.senders[1].open = true;
+                r.senders[1].message = r.senders[0].message.clone();
+                (r.senders[0].message.held, r.senders[1].message.held) = (first, last);
+            })
         };
-        assert!(!passes(&|m| m.map = 0) && passes(&|m| m.map = 1));
-        assert!(!passes(&|m| m.map = 0b1111) && passes(&|m| m.map = 0b0111));
-        assert!(!passes(&|m| m.map = 0b1_0001) && passes(&|m| m.map = 0b1000));
-        assert!(!passes(&|m| m.map = 1 << 63 | 1));
-        let widest =
-            |map: u64| move |m: &mut OpenMessage| (m.n, m.tbn, m.u, m.map) = (16_384, 64, 256, map);
-        assert!(passes(&widest(1 << 63)) && passes(&widest(u64::MAX - 1)));
-        assert!(!passes(&widest(u64::MAX)) && !passes(&widest(0)));
+        assert!(both_open(2, 2));
+        assert!(!both_open(1, 2) && !both_open(2, 1) && !both_open(2, 3));
     }
 
     #[test]
     fn records_not_in_use_are_never_looked_at() {
         let damaged = OpenMessage {
             map: u64::MAX,
+            held: 255,
             stamp: u64::MAX,
             ..OpenMessage::default()
         };
         assert!(passes(&|r| r.senders[1].message = damaged.clone()));
+        assert!(passes(&|r| r.senders[1].message.held = 1));
+        assert!(passes(&|r| r.senders[1].message.map = 1));
         assert!(passes(&|r| r.senders[0].alive_stamp = u64::MAX));
         assert!(passes(&|r| r.senders[0].al_tm_out = 7));
+    }
+
+    /// What is kept at each of these places, after a change of the busy state.
+    fn held_at<const N: usize>(places: [usize; N], change: &dyn Fn(&mut Receiver)) -> [u8; N] {
+        let mut receiver = busy();
+        change(&mut receiver);
+        places.map(|place| receiver.held(place))
+    }
+
+    #[test]
+    fn held_at_each_place() {
+        let places = [0, 1, 2, 15, 16, 255, usize::MAX];
+        assert_eq!(held_at(places, &|_| ()), [2, 0, 0, 0, 0, 0, 0]);
+        let none = held_at(places, &|r| r.senders[0].open = false);
+        assert_eq!(none, [0; 7]);
+        let second = held_at(places, &|r| r.senders.swap(0, 1));
+        assert_eq!(second, [0, 2, 0, 0, 0, 0, 0]);
+        assert_eq!(Receiver::empty().held(0), 0);
+        assert_eq!(setup(&good()).1.held(1), 0);
+    }
+
+    /// The number kept, whatever the map says, and no 9.
+    #[test]
+    fn held_is_told_of_any_state() {
+        for held in [0, 1, 3, 64, 255] {
+            let kept = held_at([0, 1], &|r| r.senders[0].message.held = held);
+            assert_eq!(kept, [held, 0]);
+            let closed = held_at([1], &|r| r.senders[1].message.held = held);
+            assert_eq!(closed, [0]);
+        }
+        let damages: [&dyn Fn(&mut Receiver); 5] = [
+            &|r| r.n1 = 0,
+            &|r| r.clock = u64::MAX,
+            &|r| r.senders[0].message.map = 0,
+            &|r| r.senders[0].message.stamp = 1_001,
+            &|r| r.senders[1].field = 0,
+        ];
+        for damage in damages {
+            assert!(!passes(damage));
+            assert_eq!(held_at([0, 1], damage), [2, 0]);
+        }
+    }
+
+    /// "1 to 16 senders": no place follows them.
+    #[test]
+    fn held_past_sixteen_senders() {
+        let seventeen = |r: &mut Receiver| {
+            let open = r.senders[0].clone();
+            r.senders = (0..17).map(|_| open.clone()).collect();
+        };
+        assert_eq!(held_at([0, 14, 15, 16, 17], &seventeen), [2, 2, 2, 0, 0]);
     }
 
     #[test]

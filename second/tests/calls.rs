@@ -39,8 +39,9 @@ fn room(tag: char) -> (usize, usize) {
         'A' | 'a' => (127, 1_473),
         'C' | 'c' => (8, 8),
         'Q' | 'W' => (0, 0),
+        'H' => (1, 1),
         't' => (16, 16),
-        'r' => (57, 57),
+        'r' => (58, 58),
         'K' => (29, 29 + 20_000),
         'R' => (21, 21 + 74),
         'F' => (0, 3 + 65_000),
@@ -96,9 +97,9 @@ fn fresh_is_written_where_it_is_made() {
 #[test]
 fn damage_is_written_between_the_calls() {
     let rows = |damage: &str, count: usize| format!("scap{damage}PACQ").repeat(count);
-    let one_value = ["s".to_string(), rows("", 1), rows("t", 6), rows("r", 13)];
+    let one_value = ["s".to_string(), rows("", 1), rows("t", 6), rows("r", 16)];
     assert_eq!(tags(&section("8.1 One value changed")), one_value.concat());
-    let cuts = ["s".to_string(), rows("r", 14)].concat();
+    let cuts = ["s".to_string(), rows("r", 19)].concat();
     assert_eq!(tags(&section("8.2 Cut and map of the open message")), cuts);
     let unseen = ["s".to_string(), rows("r", 3)].concat();
     assert_eq!(tags(&section("8.3 What is never looked at")), unseen);
@@ -107,6 +108,10 @@ fn damage_is_written_between_the_calls() {
     let over = ["P", "P", "PWP", "P", "P", "A", "A", "C", "Q"].map(|calls| format!("scr{calls}W"));
     let over = ["s", &over.concat()].concat();
     assert_eq!(tags(&section("8.5 What is written over it")), over);
+    let damages = ["", "r", "r", "r", "t", "t", "t", "t", "t", "r", "tr"];
+    let counted = damages.map(|damage| format!("scap{damage}HHHHHH"));
+    let counted = ["s", &counted.concat()].concat();
+    assert_eq!(tags(&section("8.6 The count of a damaged state")), counted);
 }
 
 // Some fields, octet by octet.
@@ -183,14 +188,36 @@ fn damaged_records_octet_by_octet() {
     let rows = section("8.1 One value changed");
     let mut expected = vec![0, 1, 0, 7, 0, 0, 0, 0, 0, 0, 0, 0];
     expected.extend([1, 0, 0, 0, 5, 0, 0, 0, 100, 234, 96, 17, 148, 4, 5, 52]);
-    expected.extend([0, 0, 0, 0, 0, 0, 0, 2, 0, 0, 0, 0, 0, 0, 3, 232]);
+    expected.extend([0, 0, 0, 0, 0, 0, 0, 2, 1, 0, 0, 0, 0, 0, 0, 3, 232]);
     expected.extend([1, 0, 0, 0, 0, 0, 0, 3, 232, 0, 0, 0, 60]);
-    assert_eq!(rows[1 + 8 + 16 * 9 + 4], ('r', expected));
+    assert_eq!(rows[1 + 8 + 16 * 9 + 4], ('r', expected.clone()));
+    // Row 23: tcd 1 as it was, held 255.
+    expected.splice(21..23, [0, 1]);
+    expected[36] = 255;
+    assert_eq!(rows[1 + 8 + 21 * 9 + 4], ('r', expected));
     let rows = section("8.3 What is never looked at");
     let mut expected = vec![2, 1, 0, 7, 0, 0, 0, 5, 0, 0, 0, 0, 1];
-    expected.extend([0; 31]);
+    expected.extend([0; 23]);
+    expected.extend([255, 0, 0, 0, 0, 0, 0, 0, 0]);
     expected.extend([1, 255, 255, 255, 255, 255, 255, 255, 255, 0, 0, 0, 0]);
     assert_eq!(rows[1 + 2 * 9 + 4], ('r', expected));
+}
+
+/// Rows of 10 fields, 11 with one damage; 9 of place 2, all else 0.
+#[test]
+fn held_calls_octet_by_octet() {
+    let rows = section("8.6 The count of a damaged state");
+    let places = [0, 1, 2, 15, 16, 255].map(|place| ('H', vec![place]));
+    assert_eq!(rows[5..11], places);
+    assert_eq!(rows[rows.len() - 6..], places);
+    let mut expected = vec![2, 0, 0, 0, 0, 0, 0, 0, 0, 0, 0, 0, 1];
+    expected.extend([0; 23]);
+    expected.push(9);
+    expected.extend([0; 21]);
+    assert_eq!(rows[rows.len() - 7], ('r', expected.clone()));
+    assert_eq!(rows[1 + 10 + 8 * 11 + 4], ('r', expected));
+    let three = [0, 0, 16, 0, 0, 58, 152, 0, 0, 0, 0, 0, 0, 3, 232, 3];
+    assert_eq!(rows[rows.len() - 8], ('t', three.to_vec()));
 }
 
 /// cut_with(SEQ, 305419896) and the part whose end is above 2^64.

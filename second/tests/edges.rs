@@ -1,5 +1,5 @@
-//! The edges: what each row of `docs/EDGES.md` must answer by 01, written by
-//! hand. Sums are made anew here, over messages and storage kept apart from the
+//! The edges: what each row of `docs/EDGES.md` must answer by 01 and 02, written
+//! by hand. Sums are made anew here, over messages and storage kept apart from the
 //! code under test.
 
 use std::sync::OnceLock;
@@ -79,12 +79,12 @@ fn what_setup_returns() {
         "\
 S 0
 W 0 16 15000 0 2
-w 0 1 7 0 0 0 0 0 0 0 0 0 0 0 0 0 0
-w 1 2 9 0 0 0 0 0 0 0 0 0 0 0 0 0 0
+w 0 1 7 0 0 0 0 0 0 0 0 0 0 0 0 0 0 0
+w 1 2 9 0 0 0 0 0 0 0 0 0 0 0 0 0 0 0
 S 0
 W 1 1024 600000 0 2
-w 0 1 7 0 0 0 0 0 0 0 0 0 0 0 0 0 0
-w 1 255 4095 0 0 0 0 0 0 0 0 0 0 0 0 0 0
+w 0 1 7 0 0 0 0 0 0 0 0 0 0 0 0 0 0 0
+w 1 255 4095 0 0 0 0 0 0 0 0 0 0 0 0 0 0 0
 S 10
 W 0 1 1 0 0",
     );
@@ -197,15 +197,15 @@ P 17 0 0 0 0 0 0
 P 1 4 0 10 2147483630 0 0
 P 1 5 0 10 0 0 0
 W 0 16 15000 0 2
-w 0 1 7 6 2147483634 0 0 0 0 0 0 0 0 0 0 0 0
-w 1 2 9 0 0 0 0 0 0 0 0 0 0 0 0 0 0
+w 0 1 7 6 2147483634 0 0 0 0 0 0 0 0 0 0 0 0 0
+w 1 2 9 0 0 0 0 0 0 0 0 0 0 0 0 0 0 0
 P 1 3 0 10 0 0 0
 P 1 1 0 10 0 0 0
 P 1 1 0 10 0 0 0
 P 1 5 0 10 0 0 0
 W 0 16 15000 0 2
-w 0 1 7 0 5 0 0 0 0 0 0 0 0 0 0 0 0
-w 1 2 9 0 0 0 0 0 0 0 0 0 0 0 0 0 0
+w 0 1 7 0 5 0 0 0 0 0 0 0 0 0 0 0 0 0
+w 1 2 9 0 0 0 0 0 0 0 0 0 0 0 0 0 0 0
 P 1 1 0 10 0 0 0
 P 1 2 0 10 0 0 0",
     );
@@ -322,8 +322,8 @@ P 18 0 0 0 0 0 0
 P 0 0 1 0 0 5 2147483647
 P 1 5 0 300 0 0 0
 W 0 16 15000 0 2
-w 0 1 7 5 112 0 0 0 0 0 0 0 0 0 0 0 0
-w 1 2 9 0 0 0 0 0 0 0 0 0 0 0 0 0 0",
+w 0 1 7 5 112 0 0 0 0 0 0 0 0 0 0 0 0 0
+w 1 2 9 0 0 0 0 0 0 0 0 0 0 0 0 0 0 0",
     );
 }
 
@@ -347,8 +347,8 @@ P 20 0 0 0 0 0 0
 P 0 0 2 0 0 0 0
 P 0 0 3 0 0 0 0
 W 0 16 15000 0 2
-w 0 1 7 0 0 1 5 100 1 4500 4 1332 11 0 0 0 0
-w 1 2 9 0 0 0 0 0 0 0 0 0 0 0 0 0 0
+w 0 1 7 0 0 1 5 100 1 4500 4 1332 11 3 0 0 0 0
+w 1 2 9 0 0 0 0 0 0 0 0 0 0 0 0 0 0 0
 P 1 1 0 4500 0 0 0
 P 17 0 0 0 0 0 0",
     );
@@ -368,13 +368,155 @@ P 20 0 0 0 0 0 0
 P 0 0 1 0 0 0 1
 P 18 0 0 0 0 0 0
 W 0 16 15000 0 2
-w 0 1 7 0 0 1 0 2 1 300 2 256 1 0 0 0 0
-w 1 2 9 0 0 0 0 0 0 0 0 0 0 0 0 0 0
+w 0 1 7 0 0 1 0 2 1 300 2 256 1 1 0 0 0 0
+w 1 2 9 0 0 0 0 0 0 0 0 0 0 0 0 0 0 0
 P 1 1 0 300 0 0 0
 W 0 16 15000 0 2
-w 0 1 7 0 2 0 0 0 0 0 0 0 0 0 0 0 0
-w 1 2 9 0 0 0 0 0 0 0 0 0 0 0 0 0 0",
+w 0 1 7 0 2 0 0 0 0 0 0 0 0 0 0 0 0 0
+w 1 2 9 0 0 0 0 0 0 0 0 0 0 0 0 0 0 0",
     );
+}
+
+/// A sender with nothing open, as 01 has it written, but for its last version and
+/// number and what is heard of it.
+fn closed(sender: &str, last: &str, heard: &str) -> String {
+    format!("w {sender} {last} 0 {NOUGHT} {heard}\n")
+}
+
+/// Each piece that joins is one more; a refused one is none. Pieces 2 and 4 are
+/// bits 1 and 3: map 10.
+const COUNT_OF_JOINS: &str = "\
+P 0 0 1 0 0 0 0
+H 1
+H 0
+H 0
+P 0 0 2 0 0 0 0
+H 2
+W 0 16 15000 0 2
+w 0 1 7 0 0 1 5 100 1 4500 4 1332 10 2 0 0 0 0
+w 1 2 9 0 0 0 0 0 0 0 0 0 0 0 0 0 0 0
+P 20 0 0 0 0 0 0
+H 2
+P 18 0 0 0 0 0 0
+H 2
+P 19 0 0 0 0 0 0
+H 2
+P 16 0 0 0 0 0 0
+H 2
+P 13 0 0 0 0 0 0
+H 2
+P 11 0 0 0 0 0 0
+H 2
+";
+
+/// The second sender's piece of ms 0 is its own; a signal and a clock call that
+/// drops nothing leave both counts.
+const COUNT_BESIDE_OTHERS: &str = "\
+P 0 0 1 0 0 0 0
+H 2
+H 1
+H 0
+A 0
+H 2
+H 1
+C 0 0 0
+H 2
+H 1
+P 0 0 3 0 0 0 0
+H 3
+H 1
+";
+
+/// A newcomer's first piece is 1, whatever was held before. The second sender's
+/// stamp is 0 and the first's 1000, so that T 15000 drops them at 15999 and 16000.
+const COUNT_OF_NEWCOMERS: &str = "\
+P 0 0 1 0 0 5 100
+H 1
+H 1
+W 0 16 15000 1000 2
+w 0 1 7 0 0 1 5 101 1 4500 4 1332 4 1 1000 1 0 60
+w 1 2 9 0 0 1 5 100 1 4500 4 1332 1 1 0 0 0 0
+P 0 0 2 0 0 0 0
+H 2
+P 0 0 1 0 0 5 101
+H 1
+P 0 0 2 0 0 0 0
+H 2
+C 0 2 0
+H 2
+H 0
+C 0 1 0
+H 0
+H 0
+W 0 16 15000 16000 2
+w 0 1 7 0 0 0 0 0 0 0 0 0 0 0 0 1 0 60
+w 1 2 9 0 0 0 0 0 0 0 0 0 0 0 0 0 0 0
+";
+
+/// Nothing is held behind a delivery. Behind (6, 51) number 61 skips 9.
+const COUNT_OF_DELIVERIES: &str = "\
+P 0 0 1 0 0 0 0
+H 1
+P 0 0 2 0 0 0 0
+H 2
+P 0 0 3 0 0 0 0
+H 3
+P 1 1 0 4500 0 0 0
+H 0
+W 0 16 15000 16000 2
+w 0 1 7 6 50 0 0 0 0 0 0 0 0 0 0 1 0 60
+w 1 2 9 0 0 0 0 0 0 0 0 0 0 0 0 0 0 0
+P 17 0 0 0 0 0 0
+H 0
+P 1 2 0 10 0 0 0
+H 0
+P 0 0 1 0 0 0 0
+H 1
+P 17 0 0 0 0 0 0
+H 1
+P 1 4 0 10 9 6 60
+H 0
+P 0 0 1 0 0 0 0
+H 1
+P 1 5 0 300 0 0 0
+H 0
+W 0 16 15000 16000 2
+w 0 1 7 6 61 0 0 0 0 0 0 0 0 0 0 1 0 60
+w 1 2 9 0 0 0 0 0 0 0 0 0 0 0 0 0 0 0
+";
+
+/// Twelve pieces under version 7, a restart; then 63 of 64, and all of the next
+/// message's. Pieces 1 to 63 are the map 2^63 - 1.
+fn count_of_long_messages() -> String {
+    let joined = |held: u32| format!("P 0 0 {held} 0 0 0 0\nH {held}\n");
+    let clock = "W 0 16 15000 16000 2\n";
+    let first = closed("0 1 7", "7 100", "1 0 60");
+    let mut lines: String = (1..=11).map(joined).collect();
+    lines += "P 1 3 0 16384 0 0 0\nH 0\n";
+    lines.extend((1..=63).map(joined));
+    lines += &[clock, &first].concat();
+    lines += "w 1 2 9 0 0 1 5 99 1 16384 64 256 9223372036854775807 63 16000 0 0 0\n";
+    lines += "P 0 0 1 0 0 5 99\nH 1\n";
+    lines.extend((2..=63).map(joined));
+    lines += "P 1 1 0 16384 0 0 0\nH 0\n";
+    lines += &[clock, &first, &closed("1 2 9", "5 100", "0 0 0")].concat();
+    lines
+}
+
+#[test]
+fn the_kept_count() {
+    let sixteen = "S 0\nH 0\nH 0\nP 0 0 1 0 0 0 0\nH 0\nH 0\nH 1\nH 0\nH 0\n";
+    let parts = [
+        "H 0\nH 0\nH 0\nH 0\nH 0\nH 0\n",
+        COUNT_OF_JOINS,
+        COUNT_BESIDE_OTHERS,
+        COUNT_OF_NEWCOMERS,
+        COUNT_OF_DELIVERIES,
+        &count_of_long_messages(),
+        sixteen,
+        "S 10\nH 0\nH 0\nH 0\n",
+    ];
+    expect("5.8 The kept count", &parts.concat());
 }
 
 #[test]
@@ -398,8 +540,8 @@ C 0 0 0
 P 20 0 0 0 0 0 0
 P 0 0 1 0 0 0 0
 W 0 16 15000 9000 2
-w 0 1 7 0 0 1 5 100 1 4500 4 1332 3 8000 0 0 0
-w 1 2 9 0 0 1 5 100 1 300 2 256 1 9000 0 0 0
+w 0 1 7 0 0 1 5 100 1 4500 4 1332 3 2 8000 0 0 0
+w 1 2 9 0 0 1 5 100 1 300 2 256 1 1 9000 0 0 0
 C 0 0 0
 C 0 1 0
 Q 0 1 1 2 2
@@ -437,8 +579,8 @@ C 0 0 0
 C 0 0 2
 C 0 0 0
 W 0 16 15000 1099511627776 2
-w 0 1 7 0 0 0 0 0 0 0 0 0 0 0 1 1999 4294967295
-w 1 2 9 0 0 0 0 0 0 0 0 0 0 0 0 0 0",
+w 0 1 7 0 0 0 0 0 0 0 0 0 0 0 0 1 1999 4294967295
+w 1 2 9 0 0 0 0 0 0 0 0 0 0 0 0 0 0 0",
     );
     expect(
         "6.5 Both maps",
@@ -475,24 +617,24 @@ fn alive_and_dead() {
 C 0 0 0
 A 0
 W 0 16 15000 500 2
-w 0 1 7 0 0 0 0 0 0 0 0 0 0 0 1 500 60
-w 1 2 9 0 0 0 0 0 0 0 0 0 0 0 0 0 0
+w 0 1 7 0 0 0 0 0 0 0 0 0 0 0 0 1 500 60
+w 1 2 9 0 0 0 0 0 0 0 0 0 0 0 0 0 0 0
 C 0 0 0
 A 0
 A 0
 A 22
 W 0 16 15000 600 2
-w 0 1 7 0 0 0 0 0 0 0 0 0 0 0 1 600 7
-w 1 2 9 0 0 0 0 0 0 0 0 0 0 0 1 600 9
+w 0 1 7 0 0 0 0 0 0 0 0 0 0 0 0 1 600 7
+w 1 2 9 0 0 0 0 0 0 0 0 0 0 0 0 1 600 9
 A 0
 W 0 16 15000 600 2
-w 0 1 7 0 0 0 0 0 0 0 0 0 0 0 0 0 0
-w 1 2 9 0 0 0 0 0 0 0 0 0 0 0 1 600 9
+w 0 1 7 0 0 0 0 0 0 0 0 0 0 0 0 0 0 0
+w 1 2 9 0 0 0 0 0 0 0 0 0 0 0 0 1 600 9
 A 0
 A 0
 W 0 16 15000 600 2
-w 0 1 7 0 0 0 0 0 0 0 0 0 0 0 1 600 4294967295
-w 1 2 9 0 0 0 0 0 0 0 0 0 0 0 0 0 0",
+w 0 1 7 0 0 0 0 0 0 0 0 0 0 0 0 1 600 4294967295
+w 1 2 9 0 0 0 0 0 0 0 0 0 0 0 0 0 0 0",
     );
     expect(
         "7.5 Alive at the empty state",
@@ -506,6 +648,8 @@ const REFUSED: [&str; 4] = ["P 9 0 0 0 0 0 0", "A 9", "C 9 0 0", "Q 9 0 0 0 0"];
 const PASSES: [&str; 4] = ["P 0 0 2 0 0 0 0", "A 0", "C 0 0 0", "Q 0 1 0 3 3"];
 /// The state passes; the PDU's n differs from the open message's.
 const UNLIKE: [&str; 4] = ["P 19 0 0 0 0 0 0", "A 0", "C 0 0 0", "Q 0 1 0 1 1"];
+/// Pieces 2 and 3 are held, piece 1 joins them, piece 4 is missing.
+const TWO_HELD: [&str; 4] = ["P 0 0 3 0 0 0 0", "A 0", "C 0 0 0", "Q 0 1 0 4 4"];
 /// Nothing was open: piece 1 opens, piece 2 is missing.
 const OPENS: [&str; 4] = ["P 0 0 1 0 0 0 0", "A 0", "C 0 0 0", "Q 0 1 0 2 2"];
 /// The empty state: nobody is registered.
@@ -522,21 +666,23 @@ fn expect_rows(title: &str, count: usize, passing: &[(usize, [&str; 4])]) {
 
 #[test]
 fn damaged_states() {
-    // Nothing changed; last version 0 with number 7.
+    // Nothing changed; last version 0 with number 7. Piece 2 alone is held, so that
+    // held 0, 2 and 255 differ from it.
     let whole = [(1, PASSES), (14, PASSES)];
-    expect_rows("8.1 One value changed", 20, &whole);
-    // n 3997, n 5328, all of 64 but piece 1.
-    let possible = [(6, UNLIKE), (7, UNLIKE), (13, UNLIKE)];
-    expect_rows("8.2 Cut and map of the open message", 14, &possible);
+    expect_rows("8.1 One value changed", 23, &whole);
+    // n 3997, n 5328, all of 64 but piece 1; then map 6 with held 2, and not with 1
+    // or 3, nor 63 ones with 62 or 64.
+    let possible = [(6, UNLIKE), (7, UNLIKE), (13, UNLIKE), (15, TWO_HELD)];
+    expect_rows("8.2 Cut and map of the open message", 19, &possible);
     let junk = [(1, OPENS), (2, PASSES), (3, PASSES)];
     expect_rows("8.3 What is never looked at", 3, &junk);
     expect_rows("8.4 No senders", 4, &[(1, NOBODY)]);
 }
 
 /// A record that is not open, and full of what is never looked at.
-const JUNK: &str = "5 100 60000 65535 1 0 18446744073709551615 18446744073709551615";
+const JUNK: &str = "5 100 60000 65535 1 0 18446744073709551615 255 18446744073709551615";
 /// The record of a message not open as 01 has it written.
-const NOUGHT: &str = "0 0 0 0 0 0 0 0";
+const NOUGHT: &str = "0 0 0 0 0 0 0 0 0";
 /// A sender not alive, with a stamp and al_tm_out that are never looked at.
 const UNHEARD: &str = "0 18446744073709551615 4294967295";
 
@@ -548,7 +694,7 @@ fn junk_row(line: &str, clock: u32, first: [&str; 3], second: &str) -> Vec<Strin
         line.to_string(),
         format!("W 0 16 15000 {clock} 2"),
         format!("w 0 1 7 {}", first.join(" ")),
-        format!("w 1 2 9 {second} 0 0 0 0 0 0 0 0 0 0 0 0"),
+        format!("w 1 2 9 {second} 0 {NOUGHT} 0 0 0"),
     ]
 }
 
@@ -559,7 +705,7 @@ fn what_is_written_over_junk() {
     let junk = format!("0 {JUNK}");
     let nought = format!("0 {NOUGHT}");
     let still = ["0 0", &junk, UNHEARD];
-    let open = ["0 0", "1 5 100 1 300 2 256 2 1000", UNHEARD];
+    let open = ["0 0", "1 5 100 1 300 2 256 2 1 1000", UNHEARD];
     let rows = [
         junk_row(
             "P 1 1 0 10 0 0 0",
@@ -585,6 +731,30 @@ fn what_is_written_over_junk() {
     assert_eq!(answers("8.5 What is written over it"), rows.concat());
 }
 
+/// The number kept, whatever the state is: at 0, 1, 2, 15, 16, 255.
+#[test]
+fn the_count_of_damaged_states() {
+    let rows = [
+        [1, 0, 0, 0, 0, 0],   // nothing changed
+        [0, 0, 0, 0, 0, 0],   // held 0
+        [255, 0, 0, 0, 0, 0], // held 255
+        [0, 0, 0, 0, 0, 0],   // not open
+        [1, 0, 0, 0, 0, 0],   // N1 0
+        [0, 0, 0, 0, 0, 0],   // count 0
+        [1, 0, 0, 0, 0, 0],   // count 1
+        [1, 0, 0, 0, 0, 0],   // count 17
+        [1, 0, 0, 0, 0, 0],   // count 255
+        [1, 0, 0, 0, 0, 0],   // place 2 past the senders
+        [1, 0, 9, 0, 0, 0],   // and within them
+    ];
+    expect_numbers(
+        "8.6 The count of a damaged state",
+        "H",
+        "",
+        rows.as_flattened(),
+    );
+}
+
 /// ms 7000 is 0 to 7 seconds or more; ms 15000 is T, and 15 seconds.
 #[test]
 fn sixteen_senders() {
@@ -606,8 +776,8 @@ fn sixteen_senders() {
 fn sender_after_7_seconds(i: u32) -> String {
     let (field, node, r) = (1 + i, 7 + i, 100 + i);
     let open = match i {
-        15 => "1 5 116 1 300 2 256 2 0",
-        _ => "0 0 0 0 0 0 0 0 0",
+        15 => "1 5 116 1 300 2 256 2 1 0",
+        _ => "0 0 0 0 0 0 0 0 0 0",
     };
     let alive = if i < 8 {
         "0 0 0".into()
@@ -674,9 +844,14 @@ fn sums(title: &str) -> Vec<(u64, u64, u64)> {
 /// "A piece of several changes exactly its p octets in its sender's area"; the
 /// delivered part is the message, octet for octet; a refusal alters no storage.
 fn expect_sums(title: &str, senders: usize, brought: &[Brought]) {
+    expect_sums_of(title, &sums(title), senders, brought);
+}
+
+/// The same of some of a section's P lines.
+fn expect_sums_of(title: &str, sums: &[(u64, u64, u64)], senders: usize, brought: &[Brought]) {
     let mut kept = Kept::new(senders);
     let mut brought = brought.iter();
-    for (row, (number, part, storage)) in sums(title).into_iter().enumerate() {
+    for (row, (number, part, storage)) in sums.iter().copied().enumerate() {
         let mut delivered = Vec::new();
         if number <= 1 {
             let whole = kept.bring(*brought.next().expect("a row too many"));
@@ -744,6 +919,35 @@ fn sums_of_dropped_and_unlike_messages() {
     let second = pieces([0, 2, 300, 256], &[1, 2]);
     let title = "5.7 Unchecked, of several pieces";
     expect_sums(title, 2, &[unchecked, second].concat());
+}
+
+/// The one call that is lent no storage is the sixth refusal behind the first two
+/// pieces; the last of all is lent that of 16 senders.
+#[test]
+fn sums_beside_the_kept_count() {
+    let title = "5.8 The kept count";
+    let mut lines = sums(title);
+    assert_eq!(lines.remove(7), (11, 7, 7));
+    let last = lines.pop().unwrap();
+    let four = |seq: usize, order: &[usize]| pieces([0, seq, 4_500, 1_332], order);
+    let order = [12, 1, 11, 2, 10, 3, 9, 4, 8, 5, 7, 6];
+    let from_below: Vec<usize> = (1..=63).collect();
+    let from_above: Vec<usize> = (1..=64).rev().collect();
+    let brought = [
+        four(100, &[2, 4]),
+        vec![[1, 100, 4_500, 1_332, 1]],
+        four(100, &[1]),
+        four(101, &[3, 1]),
+        four(50, &[2, 1, 4, 3, 2, 1]),
+        vec![[0, 51, 10, 256, 0], [0, 60, 300, 256, 2]],
+        vec![[0, 61, 10, 256, 0]],
+        pieces([0, 1, 300, 256], &[2, 1]),
+        pieces([0, 100, 16_384, 1_396], &order),
+        pieces([1, 99, 16_384, 256], &from_below),
+        pieces([1, 100, 16_384, 256], &from_above),
+    ];
+    expect_sums_of(title, &lines, 2, &brought.concat());
+    expect_sums_of(title, &[last], 16, &[[15, 100, 300, 256, 2]]);
 }
 
 #[test]
@@ -879,7 +1083,7 @@ fn lines_with_senders(c: usize) -> Vec<String> {
     expected.push(format!("W 0 16 15000 29999 {c}"));
     for i in 0..c {
         let last = if i == c - 1 { "5 100" } else { "0 0" };
-        let nought = "0 0 0 0 0 0 0 0 0 0 0 0";
+        let nought = format!("0 {NOUGHT} 0 0 0");
         expected.push(format!("w {i} {} {} {last} {nought}", 1 + i, 7 + i));
     }
     expected
@@ -1323,7 +1527,7 @@ fn tags_and_lengths() {
     expect("12.2 Tags and lengths", &expected.join("\n"));
 }
 
-/// The number of "1568 lines in all", as it stands on the page.
+/// The number of "2159 lines in all", as it stands on the page.
 fn lines_in_all(page: &str) -> usize {
     let (before, _) = page.split_once(" lines in all").expect("said on the page");
     let number = before.rsplit(' ').next().expect("a word");

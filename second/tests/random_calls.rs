@@ -81,8 +81,9 @@ fn every_number_and_verdict_is_reached_by_any_seed() {
     }
 }
 
-/// The clauses of 01's row 9, by the names that the titles have.
-const CLAUSES: [&str; 18] = [
+/// The clauses of 01's row 9 and the one that 02 adds, by the names that the
+/// titles have.
+const CLAUSES: [&str; 19] = [
     "N1",
     "T",
     "data field",
@@ -101,6 +102,7 @@ const CLAUSES: [&str; 18] = [
     "map empty",
     "map full",
     "map marked past TBN",
+    "held count",
 ];
 
 /// The numbers of the lines of calls under each title, in order; W, w and k lines
@@ -176,10 +178,11 @@ fn nine_comes_before_every_other_number() {
     );
 }
 
-/// Drops and deaths by the clock, sixteen senders, and messages of 16,384 octets.
+/// Drops and deaths by the clock, sixteen senders, and messages of 16,384 octets,
+/// in the calls of the gate's seeds.
 #[test]
 fn drops_deaths_and_long_messages_occur() {
-    let printed = lines(1, COUNT);
+    let printed: String = (1..=3).map(|seed| lines(seed, COUNT)).collect();
     let numbers = |letter: char| {
         let of_letter = printed.lines().filter(move |line| line.starts_with(letter));
         of_letter.map(|line| line.split(' ').skip(1).map(|n| n.parse::<u64>().unwrap()))
@@ -191,4 +194,86 @@ fn drops_deaths_and_long_messages_occur() {
     assert!(at('P', 3).any(|length| length == 16_384));
     assert!(at('W', 4).any(|count| count == 16) && at('W', 4).any(|count| count == 0));
     assert!(at('R', 0).any(|length| length == 0) && at('R', 0).any(|length| length > 10));
+}
+
+// The kept count.
+
+/// The numbers of each line with this letter, and the title that it stands under.
+fn numbers_of<'a>(lines: &'a str, letter: &str) -> Vec<(&'a str, Vec<u64>)> {
+    let (mut title, mut found) = ("", Vec::new());
+    for line in lines.lines() {
+        let mut words = line.split(' ');
+        if let Some(new) = line.strip_prefix("# ") {
+            title = new;
+        } else if words.next() == Some(letter) {
+            found.push((title, words.map(|word| word.parse().unwrap()).collect()));
+        }
+    }
+    found
+}
+
+fn ones(map: u64) -> u64 {
+    (0..64).map(|place| map >> place & 1).sum()
+}
+
+/// "w place field node rv r open version number tcd n tbn u map held ...": from 0,
+/// open is the sixth, map the thirteenth. Only damaged states are outside.
+#[test]
+fn wherever_a_state_is_within_its_limits_the_count_is_that_of_the_map() {
+    let printed = lines(2, COUNT);
+    let (mut open, mut closed) = (0, 0);
+    for (title, record) in numbers_of(&printed, "w") {
+        let within = !title.starts_with("9 alone: ");
+        if within && record[5] == 1 {
+            assert_eq!(record[13], ones(record[12]), "{title}: {record:?}");
+            open += 1;
+        }
+        // "written 0 and never looked at": some hold another number.
+        closed += usize::from(within && record[5] == 0 && record[13] != 0);
+    }
+    assert!(open > 50 && closed > 0, "{open} {closed}");
+}
+
+/// On each damaged state stands at least the held call for the busy sender.
+#[test]
+fn held_is_told_of_every_damaged_state() {
+    let printed = lines(1, COUNT);
+    let held = numbers_of(&printed, "H");
+    for clause in CLAUSES {
+        let title = format!("9 alone: {clause}");
+        assert!(held.iter().any(|(under, _)| **under == title), "{title}");
+    }
+    let told = |clause: &str, fits: fn(u64) -> bool| {
+        let title = format!("9 alone: {clause}");
+        held.iter().any(|(under, n)| **under == title && fits(n[0]))
+    };
+    assert!(told("N1", |held| (1..=5).contains(&held)));
+    assert!(told("map full", |held| (2..=6).contains(&held)));
+    assert!(told("map empty", |held| held == 0) && !told("no senders", |held| held != 0));
+}
+
+/// Counts of every size, and every kind of place.
+#[test]
+fn held_calls_of_every_kind_occur() {
+    for seed in [0, 1, u64::MAX] {
+        let printed = lines(seed, COUNT);
+        let held: Vec<u64> = numbers_of(&printed, "H")
+            .iter()
+            .map(|(_, n)| n[0])
+            .collect();
+        for number in [0, 1, 2, 3, 4, 64, 255] {
+            assert!(held.contains(&number), "seed {seed}: H {number}");
+        }
+        assert!(held.len() > COUNT / 10, "seed {seed}");
+        let fields = read(&calls_as_fields(seed, COUNT));
+        let asked: Vec<u8> = fields
+            .iter()
+            .filter(|(tag, _)| *tag == 'H')
+            .map(|(_, contents)| contents[0])
+            .collect();
+        for place in [0, 1, 2, 16, 255] {
+            assert!(asked.contains(&place), "seed {seed}: place {place}");
+        }
+        assert!(asked.iter().any(|place| (17..255).contains(place)));
+    }
 }

@@ -32,6 +32,7 @@ fn good_call() -> Call {
         tbn: 4,
         u: 1332,
         map: 0b0001,
+        held: 1,
         stamp: 0,
     };
     Call {
@@ -55,7 +56,7 @@ fn make_hold(call: &mut Call, row: u8) {
         17 => sender.last_number = 103,
         18 => sender.message.seq = 104,
         19 => lay(&mut call.packet, 40, &2u16.to_be_bytes()),
-        20 => sender.message.map = 0b0011,
+        20 => (sender.message.map, sender.message.held) = (0b0011, 2),
         _ => panic!("no row {row} in the message call"),
     }
 }
@@ -125,6 +126,64 @@ fn all_rows_together_give_9() {
     for (i, lowest) in rows.iter().enumerate() {
         let number = number_with(&|call| rows[..=i].iter().for_each(|row| make_hold(call, *row)));
         assert_eq!(number, *lowest);
+    }
+}
+
+/// The numbers of the four calls that judge 9, each made on the good call's state
+/// with this map and count. A refusal alters nothing.
+fn numbers_with_held(map: u64, held: u8) -> [u8; 4] {
+    let mut call = good_call();
+    let open = &mut call.receiver.senders[0].message;
+    (open.map, open.held) = (map, held);
+    let state = call.receiver.clone();
+    let mut signal = alive_of_node_2();
+    signal[11] = 7;
+    let (mut heard, mut moved) = (state.clone(), state.clone());
+    let numbers = [
+        number_of(call),
+        alive(&mut heard, &signal),
+        clock(&mut moved, 5).number,
+        match question(&state) {
+            Answer::Refused(number) => number,
+            _ => 0,
+        },
+    ];
+    assert_eq!(heard == state, numbers[1] == 9);
+    assert_eq!(moved == state, numbers[2] == 9);
+    numbers
+}
+
+/// 02: "a state where they differ meets 9", in every call that judges 9.
+#[test]
+fn row_9_the_kept_count_on_both_sides() {
+    assert_eq!(numbers_with_held(0b0001, 1), [0; 4]);
+    for held in [0, 2, 3, 4, 64, 65, 129, 255] {
+        assert_eq!(numbers_with_held(0b0001, held), [9; 4], "{held}");
+    }
+    assert_eq!(numbers_with_held(0b1101, 3), [1, 0, 0, 0]);
+    for held in [0, 1, 2, 4, 255] {
+        assert_eq!(numbers_with_held(0b1101, held), [9; 4], "{held}");
+    }
+}
+
+/// "The record of a message not open [is] never looked at": nothing is compared
+/// there, and nothing of it is left where a message opens or is delivered.
+#[test]
+fn row_9_does_not_compare_a_record_that_is_not_open() {
+    for (map, held) in [(0, 255), (0b0111, 0), (u64::MAX, 1), (0, 1)] {
+        let mut call = good_call();
+        let sender = &mut call.receiver.senders[0];
+        sender.open = false;
+        (sender.message.map, sender.message.held) = (map, held);
+        assert_eq!(question(&call.receiver), Answer::NoneOpen);
+        let (mut state, mut storage) = (call.receiver.clone(), call.storage.clone());
+        let answer = message(&mut state, &mut storage, &call.packet);
+        assert_eq!((answer.number, answer.held), (0, 1));
+        assert_eq!(state.senders[0].message.held, 1);
+        let whole = figure_54().numbered(5, 103).sized(10, 256).pdu(1);
+        let answer = message(&mut call.receiver, &mut storage, &whole);
+        assert_eq!((answer.number, answer.held), (1, 0));
+        assert_eq!(call.receiver.senders[0].message, OpenMessage::default());
     }
 }
 
@@ -335,20 +394,19 @@ fn row_20_octets_are_not_compared() {
 fn unchecked_skips_17_alone() {
     // (0, 1) is unchecked, so that it is no repeat; 18 never meets it, since
     // no number is below 1 - but 19 and 20 do.
-    let call = |map: u64, tcd: u16| {
+    let call = |map: u64, held: u8, tcd: u16| {
         number_with(&|call| {
             let sender = &mut call.receiver.senders[0];
             sender.last_version = 0;
             sender.last_number = 1;
             (sender.message.version, sender.message.seq) = (0, 1);
-            (sender.message.map, sender.message.tcd) = (map, tcd);
+            (sender.message.map, sender.message.held) = (map, held);
+            sender.message.tcd = tcd;
             call.packet = figure_54().numbered(0, 1).pdu(2);
         })
     };
-    assert_eq!(
-        (call(0b0001, 1), call(0b0001, 2), call(0b0011, 1)),
-        (0, 19, 20)
-    );
+    assert_eq!((call(0b0001, 1, 1), call(0b0001, 1, 2)), (0, 19));
+    assert_eq!(call(0b0011, 2, 1), 20);
     let larger = number_with(&|call| {
         call.receiver.senders[0].message.version = 0;
         call.packet = figure_54().numbered(0, 1).pdu(2);

@@ -23,6 +23,7 @@ use Rattle.rules.specs.calls.Clock.{clockAnswer}
 use Rattle.rules.specs.calls.Message.{messageAnswer, messageStorage}
 use Rattle.rules.specs.calls.Question.{questionAnswer}
 use Rattle.rules.specs.calls.Setup.{setupAnswer}
+use Rattle.state.specs.Held.{heldAt}
 use Rattle.tally.specs.declared.Tally.{Tally}
 use Rattle.tally.specs.Tally.{stopping}
 use Rattle.words.specs.Words.{wordsMost, word, isState, stateIn, wordsOf}
@@ -121,6 +122,12 @@ missingOf a = record { number = questionTold a .number; «open» = questionTold 
 
 unfoldable pub questionFor : List ℕ → Missing
 questionFor l = cond (isState l) (missingOf (questionAnswer (stateIn l))) (noneMissing 9)
+
+-- ---- how many pieces are held
+
+-- What is kept in the state that the words are. It is not asked whether they are one: no 9.
+abbrev pub heldFor : List ℕ → ℕ → ℕ
+heldFor l i = heldAt (stateIn l) i
 
 -- ---- the cutter
 

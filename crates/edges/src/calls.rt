@@ -8,6 +8,7 @@ use answers::Answer;
 use answers::Setup;
 use edges_calls::cut_call;
 use edges_calls::field_call;
+use edges_calls::held_call;
 use edges_calls::part_call;
 use edges_calls::question_call;
 use edges_lines::calls::call_line;
@@ -66,6 +67,7 @@ pub(crate) fn look<'a>(w: Receiver, storage: &'a [u8], field: &'a [u8]) {
     match tag {
         b'#' => title(from(field, HEAD)),
         b'Q' => question_call(w),
+        b'H' => held_call(w, from(field, HEAD)),
         b'W' => state_lines(w),
         b'K' => cut_call(from(field, HEAD)),
         b'R' => part_call(storage, from(field, HEAD)),

@@ -44,15 +44,15 @@ fn sender_in(contents: &[u8]) -> Sender {
     };
     let message = message_in(contents);
     let heard = Heard {
-        stamp: read8(contents, 45),
-        timeout: read4(contents, 53),
+        stamp: read8(contents, 46),
+        timeout: read4(contents, 54),
     };
     Sender {
         address: source,
         last,
         open: read1(contents, 12) == 1,
         message,
-        alive: read1(contents, 44) == 1,
+        alive: read1(contents, 45) == 1,
         heard,
     }
 }
@@ -66,6 +66,7 @@ fn message_in(contents: &[u8]) -> Message {
         tbn: read1(contents, 25),
         u: read2(contents, 26),
         map: read8(contents, 28),
-        stamp: read8(contents, 36),
+        held: read1(contents, 36),
+        stamp: read8(contents, 37),
     }
 }

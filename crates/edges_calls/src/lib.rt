@@ -1,5 +1,5 @@
-// The calls of docs/EDGES.md that leave the state as it is, each with its lines: the question, the cutter, the part
-// that is handed over, the next field.
+// The calls of docs/EDGES.md that leave the state as it is, each with its lines: the question, how many pieces are held,
+// the cutter, the part that is handed over, the next field.
 //
 // No contract can say what is written, so these functions have none: they answer nothing, and nothing is lent to them
 // to write.
@@ -32,6 +32,12 @@ use state::Receiver;
 
 pub fn question_call(w: Receiver) {
     question_line(question(w), w);
+}
+
+// ---- how many pieces are held
+
+pub fn held_call(w: Receiver, contents: &[u8]) {
+    line(b'H', &[w.held(read1(contents, 0)) as u64]);
 }
 
 // ---- the cutter

@@ -50,6 +50,7 @@ fn sender_line(place: u8, s: Sender) {
             m.tbn as u64,
             m.u as u64,
             m.map,
+            m.held as u64,
             m.stamp,
             s.alive as u64,
             heard.stamp,

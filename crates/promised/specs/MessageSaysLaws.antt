@@ -33,8 +33,9 @@ use Rattle.state.specs.WithinLaws.{message-facts, valid-sender, same-is}
 use Rattle.answers.specs.declared.Setup.{Setup}
 use Rattle.answers.specs.declared.Outcome.the-variants.{Delivered}
 use Rattle.answers.specs.Told.{whereTold, MessageTold, messageTold}
-use Rattle.rules.specs.calls.Admit.{mapAfter, fills, heldAfter, noneDropped, droppedBy, admitted, rejoins, sameCut, verdictOf, senderRows}
+use Rattle.rules.specs.calls.Admit.{keptAfter, fills, heldAfter, noneDropped, droppedBy, admitted, rejoins, sameCut, verdictOf, senderRows}
 use Rattle.rules.specs.calls.AdmitLaws.{Admitted, rejoins-open, drops-or-joins}
+use Rattle.rules.specs.calls.AdmitValidLaws.{kept-ones}
 use Rattle.rules.specs.calls.First.{Row, row, first}
 use Rattle.rules.specs.calls.FirstLaws.{first-later}
 use Rattle.rules.specs.calls.Message.{area, headWithin, messageRows, messageNumber, messageAnswer, liesAt, taken, refused}
@@ -224,9 +225,12 @@ module _ (q : Setup) (log : List Exchange) (w : World) (a : Agrees q log w) (p :
     unfolding view
     fills-is = sym (fills-joining sender (headOf p)) ∙ fills-count _ (timeOf log) with _ g (view w i) p t (passed .size) own-none
 
-    held-is-length : ones (mapAfter sender (headOf p)) ≡ length (acceptedWith with p)
+    -- "How many pieces are held is the count of ones in the map", and as many are kept.
+    held-is-length : keptAfter sender (headOf p) ≡ length (acceptedWith with p)
     unfolding view
-    held-is-length = ap ones (sym (map-joining sender (headOf p))) ∙ held-with _ (timeOf log) with _ g (view w i) p t (passed .size) own-none
+    held-is-length =
+        kept-ones (w .state .n1) (w .state .clock) sender (headOf p) is-admitted (valid-sender (w .state) (a .sound .is-valid) i here)
+        ∙ ap ones (sym (map-joining sender (headOf p))) ∙ held-with _ (timeOf log) with _ g (view w i) p t (passed .size) own-none
 
     -- "the open message is dropped, its version and number stand in the answer"
     dropped-is : droppedBy sender (headOf p) ≡ record { version = droppedName with p .version; number = droppedName with p .number }

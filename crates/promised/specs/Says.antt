@@ -195,6 +195,13 @@ questionSays q log =
     let i = firstPlace (λ i. isOpen (open-at i)) (length (sendersOf q)) in
     cond (ltb i (length (sendersOf q))) (record { number = 0; «open» = true; sender = i; piece = lowestOf (open-at i) }) (noneOpen 0)
 
+-- ---- how many pieces are held
+
+-- 02, Item 1: "how many pieces each sender has": as many as were accepted since its open message opened. None past the
+-- senders.
+unfoldable pub heldSays : Setup → List Exchange → ℕ → ℕ
+heldSays q log i = cond (ltb i (length (sendersOf q))) (length (openOf (given (sendersOf q) i) i log)) 0
+
 -- ---- all of them
 
 unfoldable pub says : Setup → List Exchange → (e : Event) → ToldOf e

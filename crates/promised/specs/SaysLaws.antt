@@ -6,7 +6,7 @@ use mathlib.Core.Bool.{Bool, true, false, not, cond, _||_, false≢true}
 use mathlib.Core.List.{List, [], _∷_, List·Memᴰ, List·Memᴰ·head, List·Memᴰ·tail, List·Memᴰ·cases-cons, List·Memᴰ·not-nil}
 use native.Mathlib.Omega.{arith}
 use lib.Dec.{eqb, ltb}
-use lib.ListN.{getD}
+use lib.ListN.{length, getD}
 use borrow.Author.Tests.{eqb-true, eq-eqb, le-ltb, lt-ltb, ltb-true, ltb-false, not-true, not-false}
 use Rattle.octets.specs.Split.{eq-or-ne, lt-or-le, true-or-false, never-both, same-test, or-left, or-right, either}
 use Rattle.header.specs.Head.{headOf}
@@ -14,6 +14,8 @@ use Rattle.map.specs.Map.{bit, holds}
 use Rattle.state.specs.declared.Message.{Message}
 use Rattle.state.specs.declared.Address.{Address}
 use Rattle.state.specs.declared.Sender.{Sender}
+use Rattle.state.specs.Held.{heldAt}
+use Rattle.state.specs.HeldLaws.{held-past, held-is-ones}
 use Rattle.state.specs.Limits.{sameAddress, given, clockMost}
 use Rattle.state.specs.State.{noSender, senderAt, firstWhere, Settings}
 use Rattle.state.specs.Table.{source, found}
@@ -36,7 +38,7 @@ use Rattle.promised.specs.Join.{numberIn}
 use Rattle.promised.specs.JoinLaws.{kinIn, Fine}
 use Rattle.promised.specs.Log.{Exchange, timeOf, openOf, isOpen, lifeOf}
 use Rattle.promised.specs.LogLaws.{open-pieces}
-use Rattle.promised.specs.Says.{sendersOf, firstPlace, placeOf, aliveSays, mapOf, isDropped, isOld, clockSays, hasPiece, piecesIn, questionSays}
+use Rattle.promised.specs.Says.{sendersOf, firstPlace, placeOf, aliveSays, mapOf, isDropped, isOld, clockSays, hasPiece, piecesIn, questionSays, heldSays}
 use Rattle.promised.specs.View.{view}
 
 -- ---- places
@@ -161,6 +163,22 @@ module _ (q : Setup) (log : List Exchange) (w : World) (a : Agrees q log w) wher
   open-is : (i : ℕ) → i < w .state .count → senderAt (w .state) i .«open» ≡ isOpen (at i)
   unfolding view
   open-is i here = a .tells i here .same-open
+
+  -- As many pieces are kept as were accepted since.
+  pub held-says : (i : ℕ) → heldAt (w .state) i ≡ heldSays q log i
+  unfolding heldSays view
+  held-says i = rw (← a .count) (⊎-elim
+      (λ (here : i < w .state .count).
+      rw (lt-ltb i (w .state .count) here) (held-is-ones (w .state) i (a .sound .is-valid) here ∙ ⊎-elim
+      (λ (o : senderAt (w .state) i .«open» ≡ true). rw o (a .tells i here .same-held o))
+      (λ (o : senderAt (w .state) i .«open» ≡ false). rw o (none-open (at i) (sym (open-is i here) ∙ o)))
+      (true-or-false (senderAt (w .state) i .«open»))))
+      (λ (past : w .state .count ≤ i). rw (le-ltb i (w .state .count) past) (held-past (w .state) i past))
+      (lt-or-le i (w .state .count)))
+    where
+      none-open : (packets : List (List ℕ)) → isOpen packets ≡ false → 0 ≡ length packets
+      none-open [] e = refl
+      none-open (p ∷ packets) e = absurd (never-both refl e)
 
   -- The lowest missing piece of the open message at place i.
   module _ (i : ℕ) (here : i < w .state .count) (opened : senderAt (w .state) i .«open» ≡ true) where

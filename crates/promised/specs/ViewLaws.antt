@@ -29,7 +29,7 @@ use Rattle.state.specs.Table.{source, found}
 use Rattle.state.specs.WithinLaws.{valid-length, valid-apart, same-both, set-place}
 use Rattle.answers.specs.declared.Answer.{Answer}
 use Rattle.answers.specs.declared.Noted.{Noted}
-use Rattle.rules.specs.calls.Admit.{senderRows, rejoins, mapAfter, fills, senderAfter, admitted, notAdmitted, admission}
+use Rattle.rules.specs.calls.Admit.{senderRows, rejoins, mapAfter, keptAfter, fills, senderAfter, admitted, notAdmitted, admission}
 use Rattle.rules.specs.calls.ChangesLaws.{alive-only}
 use Rattle.rules.specs.calls.Alive.{aliveRows, heardBy, aliveAnswer}
 use Rattle.rules.specs.calls.Clock.{aged}
@@ -129,6 +129,10 @@ pub map-joining : (s : Sender) (h : Head) → mapAfter (joining s) h ≡ mapAfte
 unfolding mapAfter rejoins
 map-joining s h = refl
 
+kept-joining : (s : Sender) (h : Head) → keptAfter (joining s) h ≡ keptAfter s h
+unfolding keptAfter rejoins
+kept-joining s h = refl
+
 pub fills-joining : (s : Sender) (h : Head) → fills (joining s) h ≡ fills s h
 unfolding fills mapAfter rejoins
 fills-joining s h = refl
@@ -137,7 +141,7 @@ joining-after : (n1 now : ℕ) (s : Sender) (h : Head) → joining (admitted n1 
 unfolding admitted senderAfter
 joining-after n1 now s h = ⊎-elim
     (λ (e : fills s h ≡ true). rw (fills-joining s h, e))
-    (λ (e : fills s h ≡ false). rw (fills-joining s h, e, map-joining s h))
+    (λ (e : fills s h ≡ false). rw (fills-joining s h, e, map-joining s h, kept-joining s h))
     (true-or-false (fills s h))
 
 outcome-joining : (n1 now : ℕ) (s : Sender) (h : Head) → admitted n1 now (joining s) h .outcome ≡ admitted n1 now s h .outcome

@@ -10,6 +10,7 @@ use Rattle.header.specs.declared.Given.{Given}
 use Rattle.cut.specs.declared.cutter.Cutting.{Cutting}
 use Rattle.cut.specs.Cutter.{cutterAnswer, cutterBuffer}
 use Rattle.state.specs.declared.Receiver.{Receiver}
+use Rattle.state.specs.Held.{heldAt}
 use Rattle.answers.specs.declared.Answer.{Answer}
 use Rattle.answers.specs.declared.Missing.{Missing}
 use Rattle.answers.specs.declared.Noted.{Noted}
@@ -67,6 +68,11 @@ pub record ClockMeets (w : World) (ms : ℕ) (r : Ticked) (v : World) : Type 0 w
 pub record QuestionMeets (w : World) (r : Missing) (v : World) : Type 0 where
   pub answered : r ≡ questionAnswer (w .state)
   pub stays : v ≡ w
+
+-- 02, Item 1: the maintenance page asks how many pieces the sender at a place has. That stands in no past: it leaves
+-- nothing.
+pub record HeldMeets (w : World) (place held : ℕ) : Type 0 where
+  pub answered : held ≡ heldAt (w .state) place
 
 -- The cutter stands in no past: it makes packets.
 pub record CutterMeets (g : Given) (m : List ℕ) (u c : ℕ) (buffer : List ℕ) (r : Cutting) (left : List ℕ) : Type 0 where

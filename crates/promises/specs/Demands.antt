@@ -1,15 +1,16 @@
--- The user's three demands, clause by clause, each as a statement about every program whose calls meet the public
--- contracts (Course.antt). The words that they are written in stand in `promised`: Log and Says (what is said by setup
+-- The user's three demands, clause by clause, and what 02's requests add to them, each as a statement about every program
+-- whose calls meet the public contracts (Course.antt). The words that they are written in stand in `promised`: Log and Says (what is said by setup
 -- and calls alone), Join (safety), Delivery, AlivePast; and here in AsPrinted and Counted. No state is named but where
--- any state may come. Proved in Kept.antt.
+-- any state may come, and where 02 names the map. Proved in Kept.antt.
 --
 -- Of demand 1, "Nothing is read or written outside what was lent, and every call ends" is what the proof of every
 -- function shows, contract or not.
 use Prim.Native.Nat.{ℕ, _≤_, _<_}
 use mathlib.Core.Path.{_≡_}
 use mathlib.Core.Logic.{_≢_}
-use mathlib.Core.Bool.{true, not}
+use mathlib.Core.Bool.{true, not, cond}
 use mathlib.Core.List.{List, [], _∷_, map, List·Memᴰ}
+use lib.Count.{ones}
 use lib.ListN.{length, take}
 use Rattle.ring.specs.Printed.{CheckAsPrinted}
 use Rattle.header.specs.declared.Given.{Given}
@@ -20,7 +21,7 @@ use Rattle.cut.specs.Cutter.{Words, cuts, cutterTold}
 use Rattle.cut.specs.Edges.{all, edges}
 use Rattle.cut.specs.Printed.{Limits, CutsAsPrinted, PossibleAsPrinted}
 use Rattle.state.specs.Limits.{given}
-use Rattle.state.specs.State.{emptyReceiver}
+use Rattle.state.specs.State.{emptyReceiver, senderAt}
 use Rattle.state.specs.Table.{source}
 use Rattle.answers.specs.declared.Setup.{Setup}
 use Rattle.answers.specs.declared.Started.{Started}
@@ -39,11 +40,11 @@ use Rattle.promised.specs.AlivePast.{AliveBy}
 use Rattle.promised.specs.Delivery.{Sent, sentBy, Numbered, PieceOf, May, Between, OnlyPieces, verdictFor, OneApplies, Arrives, Once, Listed}
 use Rattle.promised.specs.Join.{Joined}
 use Rattle.promised.specs.Log.{toldBy, Exchange, logged, deliveries, acceptedWith, openOf, lifeOf}
-use Rattle.promised.specs.Says.{sendersOf, placeOf, says, logOf}
+use Rattle.promised.specs.Says.{sendersOf, placeOf, heldSays, says, logOf}
 use Rattle.promises.specs.AsPrinted.{CuttingAsPrinted}
 use Rattle.promises.specs.Board.{BoardBegins, BoardIsCourse}
 use Rattle.promises.specs.Counted.{TalliedIsCourse, OneCounted, AllCounted}
-use Rattle.promises.specs.Course.{Meets, Course, SetupMeets, CutterMeets}
+use Rattle.promises.specs.Course.{Meets, Course, SetupMeets, HeldMeets, CutterMeets}
 
 -- ---- demand 1
 
@@ -204,6 +205,26 @@ Safety = AfterPast (λ q log v. (packet : List ℕ) (r : Said (message packet)) 
     → let a = source (headOf packet) in
     Joined (acceptedWith (openOf a (placeOf (sendersOf q) a) log) packet) packet (r .1))
 
+-- ---- 02, Item 1: the held count
+
+-- "how many pieces each sender has": after any past the page is told as many as were accepted since the sender's message
+-- opened, and 0 where none is open.
+abbrev pub HeldSaid : Type 0
+HeldSaid = AfterPast (λ q log v. (i held : ℕ) → HeldMeets v i held → held ≡ heldSays q log i)
+
+-- "Every call keeps it equal to the number of ones in the map".
+abbrev pub HeldIsOnes : Type 0
+HeldIsOnes = AfterPast (λ q log v. (i held : ℕ) → i < length (sendersOf q) → HeldMeets v i held
+    → let s = senderAt (v .state) i in
+    held ≡ cond (s .«open») (ones (s .message .map)) 0)
+
+-- "a state where they differ meets 9": whatever the rest of it is, in every call.
+abbrev pub DifferMeetsNine : Type 0
+DifferMeetsNine = (w : World) (i : ℕ) → i < w .state .count
+    → let s = senderAt (w .state) i in
+    s .«open» ≡ true → s .message .held ≢ ones (s .message .map)
+    → (e : Event) (r : Said e) (v : World) → Meets w e r v → RefusedWith e r 9
+
 -- ---- uniqueness, and the edges
 
 -- "Uniqueness is itself proved": of two programs, or of one that runs twice, the same calls get the same answers and
@@ -254,6 +275,9 @@ pub record Demands : Type 0 where
   pub delivers : DeliveredOnce
   pub listed-once : ListedOnce
   pub is-safe : Safety
+  pub held-said : HeldSaid
+  pub held-is-ones : HeldIsOnes
+  pub differ-meets-nine : DifferMeetsNine
   pub one-course : OneCourse
   pub one-start : OneStart
   pub one-cutting : OneCutting

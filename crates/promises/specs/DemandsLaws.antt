@@ -23,6 +23,7 @@ use Rattle.cut.specs.Pieces.{pieceLength}
 use Rattle.state.specs.declared.Address.{Address}
 use Rattle.state.specs.declared.Receiver.{Receiver}
 use Rattle.state.specs.declared.Sender.{Sender}
+use Rattle.state.specs.HeldLaws as held
 use Rattle.state.specs.Limits.{given, valid}
 use Rattle.state.specs.State.{senderAt, emptyReceiver}
 use Rattle.state.specs.Table.{source, found}
@@ -50,6 +51,7 @@ use Rattle.promised.specs.AgreesLaws.{Agrees, agrees-start}
 use Rattle.promised.specs.PastSaysLaws.{says-is, agrees-after, log-is, alive-told}
 use Rattle.promised.specs.MessageSaysLaws.{safe}
 use Rattle.promised.specs.Says.{sendersOf, placeOf}
+use Rattle.promised.specs.SaysLaws.{held-says}
 use Rattle.promised.specs.Log.{toldBy, Exchange, logged, deliveries, acceptedWith, openOf, lifeOf}
 use Rattle.rules.specs.calls.ExactlyLaws.{message-refuses, message-given, alive-refuses, alive-given, clock-refuses, clock-given, question-refuses, question-given, setup-refuses, setup-given, message-tells, alive-tells, clock-tells, question-tells, setup-tells}
 use Rattle.rules.specs.calls.First.{Row, row, Given}
@@ -61,7 +63,7 @@ use Rattle.rules.specs.pasts.PastLaws.{Sound}
 use Rattle.rules.specs.calls.Setup.{setupWithin}
 use Rattle.promises.specs.Course.{SetupMeets, Course}
 use Rattle.promises.specs.CourseLaws.{one-call, one-course, next-call, course-start, course-sound}
-use Rattle.promises.specs.Demands.{numberIn, NothingMore, rowsOf, Refuses, CallsRefuse, SetupRefuses, CutterRefuses, Tells, NumbersTell, VerdictTold, NothingHanded, NeverNine, EverySaid, LogIs, WhoIsAlive, DeliveredOnce, ListedOnce, Safety}
+use Rattle.promises.specs.Demands.{numberIn, NothingMore, rowsOf, Refuses, CallsRefuse, SetupRefuses, CutterRefuses, Tells, NumbersTell, VerdictTold, NothingHanded, NeverNine, EverySaid, LogIs, WhoIsAlive, DeliveredOnce, ListedOnce, Safety, HeldSaid, HeldIsOnes, DifferMeetsNine}
 
 -- ---- demand 1
 
@@ -242,6 +244,31 @@ module _ (q : Setup) (r : Started) (w : World) (m : SetupMeets q r w) (es : List
 pub every-said : EverySaid
 every-said q r w m es rs v c e a u meets =
     ap (toldBy e) (one-call v e a u meets .0) ∙ says-is q (logged [] es rs) v (course-agrees q r w m es rs v c) e
+
+pub held-said : HeldSaid
+held-said q r w m es rs v c i k asked =
+    asked .answered ∙ held-says q (logged [] es rs) v (course-agrees q r w m es rs v c) i
+
+pub held-is-ones : HeldIsOnes
+held-is-ones q r w m es rs v c i k here asked =
+    let a = course-agrees q r w m es rs v c in
+    asked .answered ∙ held.held-is-ones (v .state) i (a .sound .is-valid) (omega (arith, here, a .count))
+
+-- Row 9 is the first of every call.
+nine-first : (b : Bool) (rs : List Row) → b ≡ false → Given (row 9 (not b) ∷ rs) 9
+unfolding Given
+nine-first b rs e = inl (rw e, refl)
+
+nine-given : (w : World) → valid (w .state) ≡ false → (e : Event) → Given (rowsOf w e) 9
+unfolding messageRows aliveRows
+nine-given w e (message packet) = nine-first _ _ e
+nine-given w e (alive packet) = nine-first _ _ e
+nine-given w e (clock now) = nine-first _ _ e
+nine-given w e (aside question) = nine-first _ _ e
+
+pub differ-meets-nine : DifferMeetsNine
+differ-meets-nine w i here is differ e r v meets =
+    calls-refuse w e r v meets .if-first 9 (nine-given w (held.differ-nine (w .state) i here is differ) e)
 
 pub log-fixed : LogIs
 log-fixed q r w m es rs v c =

@@ -9,6 +9,7 @@ ghost use mathlib.Core.List.{List};
 ghost use Prim.Native.Nat.{ℕ, _*_};
 ghost use lib.ListN.{length};
 ghost use Rattle.cut.specs.Cutter.{cutterAnswer, cutterBuffer};
+ghost use Rattle.state.specs.Held.{heldAt};
 ghost use Rattle.rules.specs.calls.Alive.{aliveAnswer};
 ghost use Rattle.rules.specs.calls.Clock.{clockAnswer};
 ghost use Rattle.rules.specs.calls.Message.{area, messageAnswer, messageStorage};
@@ -19,9 +20,9 @@ ghost use Rattle.rules.specs.calls.Question.{questionAnswer};
 ghost use Rattle.rules.specs.calls.Setup.{setupAnswer};
 ghost use Rattle.tally.specs.Tally.{counted as countedOf};
 ghost use Rattle.words.specs.Words.{wordsMost, stateIn, leftBy};
-ghost use Rattle.board.specs.Calls.{setupFor, setupWords, messageFor, storageFor, tallyFor, aliveFor, clockFor, questionFor};
-ghost use Rattle.promises.specs.Board.{board, BoardMeets, BoardStarts};
-ghost use Rattle.promises.specs.Course.{world, messagesOf, Leads, SetupMeets, MessageMeets, TallyMeets, PartMeets, AliveMeets, ClockMeets, QuestionMeets, CutterMeets};
+ghost use Rattle.board.specs.Calls.{setupFor, setupWords, messageFor, storageFor, tallyFor, aliveFor, clockFor, questionFor, heldFor};
+ghost use Rattle.promises.specs.Board.{board, worldOf, BoardMeets, BoardStarts};
+ghost use Rattle.promises.specs.Course.{world, messagesOf, Leads, SetupMeets, MessageMeets, TallyMeets, PartMeets, AliveMeets, ClockMeets, QuestionMeets, HeldMeets, CutterMeets};
 use answers::Answer;
 use answers::Missing;
 use answers::Noted;
@@ -32,6 +33,7 @@ use answers::Where;
 use board::Told;
 use board_alive::adp_alive;
 use board_clock::adp_clock;
+use board_held::adp_held;
 use board_message::adp_message;
 use board_question::adp_question;
 use board_setup::adp_setup;
@@ -106,6 +108,14 @@ pub fn question(state: Receiver) -> Missing
     question::question(state)
 }
 
+// What the maintenance page is told: the same of any storage.
+pub fn held(state: Receiver, place: u8) -> u8
+    ensures answer { λ r. ⌜ r ≡ heldAt state place ⌝ }
+    ensures meets { λ r. ⌜ ((storage : List ℕ) → HeldMeets (world state storage) place r) ⌝ }
+{
+    state.held(place)
+}
+
 pub fn cutter(given: Given, message: &[u8], u: u16, piece: u8, buffer: &mut [u8]) -> Cutting
     ensures answer { λ r. ⌜ r ≡ cutterAnswer given (now (message .entry)) u piece (length (now (buffer .entry))) ⌝ }
     ensures written { λ _. ⌜ now (buffer .exit) ≡ cutterBuffer given (now (message .entry)) u piece (now (buffer .entry)) ⌝ }
@@ -162,6 +172,14 @@ pub fn board_question(state: &[u64]) -> board::Missing
     ensures meets { λ r. ⌜ ((storage : List ℕ) → BoardMeets (board (now (state .entry)) storage) (past.aside past.question) r (board (now (state .entry)) storage)) ⌝ }
 {
     adp_question(state)
+}
+
+// Of any words: it is not asked whether they are a state.
+pub fn board_held(state: &[u64], place: u8) -> u8
+    ensures answer { λ r. ⌜ r ≡ heldFor (now (state .entry)) place ⌝ }
+    ensures meets { λ r. ⌜ ((storage : List ℕ) → HeldMeets (worldOf (board (now (state .entry)) storage)) place r) ⌝ }
+{
+    adp_held(state, place)
 }
 
 // Of as many words as a state has.

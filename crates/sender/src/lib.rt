@@ -8,7 +8,7 @@ ghost use mathlib.Core.List.{[], _∷_};
 ghost use Rattle.ring.specs.Ring.{newer as isNewer};
 ghost use Rattle.cut.specs.Possible.{possible as isPossible};
 ghost use Rattle.map.specs.Map.{holds as holdsOf};
-ghost use Rattle.rules.specs.calls.Admit.{rejoins as isRejoining, sameCut, senderRows, sameVersion, mapAfter, droppedBy, lastBy, closed, messageOf, opened as isOpened, admitted, admission, verdictOf};
+ghost use Rattle.rules.specs.calls.Admit.{rejoins as isRejoining, sameCut, senderRows, sameVersion, mapAfter, keptAfter, droppedBy, lastBy, closed, messageOf, opened as isOpened, admitted, notAdmitted, admission, verdictOf};
 ghost use Rattle.rules.specs.calls.First.{row, first};
 use answers::Admission;
 use answers::Dropped;
@@ -17,7 +17,6 @@ use cut::possible::message_length;
 use cut::possible::possible;
 use cut::possible::unit;
 use header::Head;
-use map::held;
 use map::holds;
 use map::is_full;
 use map::marked;
@@ -34,14 +33,21 @@ pub fn admit(s: Sender, test: bool, n1: u16, clock: u64, h: Head) -> Admission
 {
     let number = refusal(s, test, n1, h);
     if number != 0 {
-        return Admission {
-            outcome: Outcome::Refused(number),
-            held: 0,
-            dropped: Dropped::NONE,
-            sender: s,
-        };
+        return refused_by(s, number);
     }
     admitted_by(s, n1, clock, h)
+}
+
+// A refusal alters nothing.
+fn refused_by(s: Sender, number: u8) -> Admission
+    ensures { λ r. ⌜ r ≡ notAdmitted s number ⌝ }
+{
+    Admission {
+        outcome: Outcome::Refused(number),
+        held: 0,
+        dropped: Dropped::NONE,
+        sender: s,
+    }
 }
 
 // ---- the numbers
@@ -134,10 +140,11 @@ fn admitted_by(s: Sender, n1: u16, clock: u64, h: Head) -> Admission
             sender,
         };
     }
-    let sender = opened(s, clock, map, h);
+    let held = kept_after(s, h);
+    let sender = opened(s, clock, map, held, h);
     Admission {
         outcome: Outcome::Stored,
-        held: held(map) as u8,
+        held,
         dropped,
         sender,
     }
@@ -153,6 +160,18 @@ fn map_after(s: Sender, h: Head) -> u64
         return marked(m.map, cut.cbn);
     }
     marked(0, cut.cbn)
+}
+
+// How many pieces of that message are then held: one more than was kept, and nothing is counted. A record outside its
+// limits may have 255 kept.
+fn kept_after(s: Sender, h: Head) -> u8
+    ensures { λ r. ⌜ r ≡ keptAfter s h ⌝ }
+{
+    let m = s.message;
+    if !rejoins(s, h) {
+        return 1;
+    }
+    if m.held < 255 { m.held + 1 } else { m.held }
 }
 
 // The open message, where the PDU has another version, or the same version and a larger number.
@@ -192,18 +211,18 @@ fn last_after(s: Sender, v: Verdict, h: Head) -> Last
     Last { version, number }
 }
 
-// The record with the message open, and this map.
-fn opened(s: Sender, clock: u64, map: u64, h: Head) -> Sender
+// The record with the message open, this map and this number of pieces held.
+fn opened(s: Sender, clock: u64, map: u64, held: u8, h: Head) -> Sender
     requires { ⌜ isPossible (h .cut) ≡ true ⌝ }
-    ensures { λ r. ⌜ r ≡ isOpened s (messageOf clock map h) ⌝ }
+    ensures { λ r. ⌜ r ≡ isOpened s (messageOf clock map held h) ⌝ }
 {
-    let message = message_of(clock, map, h);
+    let message = message_of(clock, map, held, h);
     s.with_message(true, message)
 }
 
-fn message_of(clock: u64, map: u64, h: Head) -> Message
+fn message_of(clock: u64, map: u64, held: u8, h: Head) -> Message
     requires { ⌜ isPossible (h .cut) ≡ true ⌝ }
-    ensures { λ r. ⌜ r ≡ messageOf clock map h ⌝ }
+    ensures { λ r. ⌜ r ≡ messageOf clock map held h ⌝ }
 {
     let given = h.given;
     let cut = h.cut;
@@ -215,6 +234,7 @@ fn message_of(clock: u64, map: u64, h: Head) -> Message
         tcd: given.tcd,
         n: message_length(cut) as u16,
         tbn: cut.tbn,
+        held,
         u: unit(cut) as u16,
         map,
         stamp: clock,

@@ -1,4 +1,6 @@
 pub mod State
+pub mod Held
+pub mod HeldLaws
 pub mod Limits
 pub mod LimitsLaws
 pub mod Key

@@ -4,6 +4,7 @@
 use Prim.Native.Nat.{ℕ, zero, suc}
 use mathlib.Core.Bool.{Bool, true, not, _&&_, _||_}
 use mathlib.Core.List.{List}
+use lib.Count.{ones}
 use lib.Dec.{eqb, leb, ltb}
 use lib.ListN.{getD}
 use Rattle.ring.specs.Ring.{M, isNumber}
@@ -39,11 +40,13 @@ sameAddress a b = eqb (a .field .0) (b .field .0) && eqb (a .node .0) (b .node .
 unfoldable pub lastWithin : Last → Bool
 lastWithin l = leb (l .number .0) M && (eqb (l .version .0) 0 || ltb 0 (l .number .0))
 
--- "an open message with an impossible cut or a map that is empty, full or marked past TBN"
+-- "an open message with an impossible cut or a map that is empty, full or marked past TBN". 02, Item 1: the number kept
+-- is to be "equal to the number of ones in the map; a state where they differ meets 9".
 unfoldable pub messageWithin : ℕ → Message → Bool
 messageWithin clock m =
     isNumber (m .number .0) && isUser (m .tcd) && severalPossible (m .n) (m .tbn) (m .u)
-    && not (isEmpty (m .map) || isFull (m .map) (m .tbn) || markedPast (m .map) (m .tbn)) && leb (m .stamp) clock
+    && not (isEmpty (m .map) || isFull (m .map) (m .tbn) || markedPast (m .map) (m .tbn)) && eqb (m .held) (ones (m .map))
+    && leb (m .stamp) clock
 
 -- Of a sender, what is not open or not alive is not looked at.
 unfoldable pub senderWithin : ℕ → Sender → Bool

@@ -22,7 +22,7 @@ noLast = record { version = record { 0 = 0 }; number = record { 0 = 0 } }
 -- "The record of a message not open, the stamp and al_tm_out of a sender not alive, and places past the senders are
 -- written 0"
 abbrev pub noMessage : Message
-noMessage = record { version = record { 0 = 0 }; number = record { 0 = 0 }; tcd = 0; n = 0; tbn = 0; u = 0; map = 0; stamp = 0 }
+noMessage = record { version = record { 0 = 0 }; number = record { 0 = 0 }; tcd = 0; n = 0; tbn = 0; held = 0; u = 0; map = 0; stamp = 0 }
 
 abbrev pub noHeard : Heard
 noHeard = record { stamp = 0; timeout = 0 }

@@ -6,10 +6,11 @@ use mathlib.Core.Bool.{Bool, true, false, not, _&&_, _||_, false≢true}
 use mathlib.Core.List.{List}
 use Prim.Native.Nat.{ℕ, zero, suc, _≤_, _<_}
 use native.Mathlib.Omega.{arith}
+use lib.Count.{ones}
 use lib.Dec.{eqb, leb, ltb}
 use lib.ListN.{length, getD, set, length-set, List·getD-eq-default}
 use lib.Seq.{getD-set-same, getD-set-other}
-use borrow.Author.Tests.{le-leb, leb-true, lt-ltb, ltb-true, eqb-true, not-true}
+use borrow.Author.Tests.{le-leb, leb-true, lt-ltb, ltb-true, eq-eqb, eqb-true, not-true}
 use Rattle.octets.specs.Split.{lt-or-le, eq-or-ne, both, and-left, and-right}
 use Rattle.ring.specs.Ring.{isNumber}
 use Rattle.header.specs.Codes.{isUser}
@@ -27,13 +28,14 @@ use Rattle.state.specs.State.{noSender, senderAt}
 -- ---- an open message
 
 -- Neither "open SEQ or open code outside this paper's limits, a stamp after the clock" nor "an impossible cut or a map
--- that is empty, full or marked past TBN".
+-- that is empty, full or marked past TBN", nor a number kept that is not that of the ones in the map.
 pub record MessageWithin (clock : ℕ) (m : Message) : Type 0 where
   pub number : isNumber (m .number .0) ≡ true
   pub code : isUser (m .tcd) ≡ true
   pub cut : severalPossible (m .n) (m .tbn) (m .u) ≡ true
   pub not-empty : 0 < m .map
   pub not-full : m .map < fullMap (m .tbn)
+  pub held : m .held ≡ ones (m .map)
   pub stamp : m .stamp ≤ clock
 
 pub message-facts : (clock : ℕ) (m : Message) → messageWithin clock m ≡ true → MessageWithin clock m
@@ -45,8 +47,10 @@ message-facts clock m e =
     let a4 = not (isEmpty (m .map) || isFull (m .map) (m .tbn) || markedPast (m .map) (m .tbn)) in
     let low = ltb 0 (m .map) in
     let high = ltb (m .map) (fullMap (m .tbn)) in
-    let a5 = leb (m .stamp) clock in
-    let e4 = and-left (a1 && a2 && a3 && a4) a5 e in
+    let a5 = eqb (m .held) (ones (m .map)) in
+    let a6 = leb (m .stamp) clock in
+    let e5 = and-left (a1 && a2 && a3 && a4 && a5) a6 e in
+    let e4 = and-left (a1 && a2 && a3 && a4) a5 e5 in
     let e3 = and-left (a1 && a2 && a3) a4 e4 in
     let e2 = and-left (a1 && a2) a3 e3 in
     let map = sym (partial-is (m .map) (m .tbn)) ∙ and-right (a1 && a2 && a3) a4 e4 in
@@ -56,7 +60,8 @@ message-facts clock m e =
       cut = and-right (a1 && a2) a3 e3;
       not-empty = ltb-true 0 (m .map) (and-left low high map);
       not-full = ltb-true (m .map) (fullMap (m .tbn)) (and-right low high map);
-      stamp = leb-true (m .stamp) clock (and-right (a1 && a2 && a3 && a4) a5 e);
+      held = eqb-true (m .held) (ones (m .map)) (and-right (a1 && a2 && a3 && a4) a5 e5);
+      stamp = leb-true (m .stamp) clock (and-right (a1 && a2 && a3 && a4 && a5) a6 e);
     }
 
 pub message-of : (clock : ℕ) (m : Message) → MessageWithin clock m → messageWithin clock m ≡ true
@@ -65,7 +70,7 @@ message-of clock m f =
     let low = ltb 0 (m .map) in
     let high = ltb (m .map) (fullMap (m .tbn)) in
     let map = partial-is (m .map) (m .tbn) ∙ both low high (lt-ltb 0 (m .map) (f .not-empty)) (lt-ltb (m .map) (fullMap (m .tbn)) (f .not-full)) in
-    rw (f .number, f .code, f .cut, map, le-leb (m .stamp) clock (f .stamp))
+    rw (f .number, f .code, f .cut, map, eq-eqb (m .held) (ones (m .map)) (f .held), le-leb (m .stamp) clock (f .stamp))
 
 -- Time going on keeps an open message within its limits.
 pub message-later : (clock now : ℕ) (m : Message) → clock ≤ now → messageWithin clock m ≡ true → messageWithin now m ≡ true

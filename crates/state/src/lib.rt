@@ -4,10 +4,11 @@
 // What is not open, not alive or past the senders is written 0 and never looked at.
 ghost use mathlib.Core.Path.{_≡_};
 ghost use mathlib.Core.Bool.{cond, not, _||_};
-ghost use Prim.Native.Nat.{_+_, _≤_, _<_};
+ghost use Prim.Native.Nat.{_+_, _<_};
 ghost use lib.Dec.{ltb};
 ghost use Rattle.state.specs.Limits.{isAddress, sameAddress, lastWithin, messageWithin, senderWithin, settingsWithin, addressesWithin, valid};
 ghost use Rattle.state.specs.Key.{keyOf, Narrow, newKey};
+ghost use Rattle.state.specs.Held.{heldAt};
 ghost use Rattle.state.specs.Table.{source, lookAt};
 ghost use Rattle.state.specs.State.{sendersMost, newSender, withMessage, withHeard, withLast, emptyReceiver};
 use cut::pieces::MOST_OCTETS;
@@ -16,6 +17,7 @@ use header::Head;
 use header::codes::DataField;
 use header::codes::Node;
 use header::codes::code_of;
+use map::held;
 use map::is_partial;
 use ring::M;
 use ring::Number;
@@ -27,14 +29,17 @@ pub struct Last {
     pub number: Number,
 }
 
-// An open message: piece c is held where bit c - 1 of the map is set, bit 0 lowest; the stamp is the clock at its
-// newest piece.
+// An open message: piece c is held where bit c - 1 of the map is set, bit 0 lowest; `held` is how many are; the stamp is
+// the clock at its newest piece.
+//
+// The two octets stand together: apart, the record would be longer by eight.
 pub struct Message {
     pub version: Version,
     pub number: Number,
     pub tcd: u16,
     pub n: u16,
     pub tbn: u8,
+    pub held: u8,
     pub u: u16,
     pub map: u64,
     pub stamp: u64,
@@ -155,6 +160,7 @@ impl Message {
         tcd: 0,
         n: 0,
         tbn: 0,
+        held: 0,
         u: 0,
         map: 0,
         stamp: 0,
@@ -168,6 +174,7 @@ impl Message {
             & code_of(self.tcd).is_user()
             & several(self.n as u32, self.tbn, self.u as u32)
             & is_partial(self.map, self.tbn)
+            & (self.held as u32 == held(self.map))
             & (self.stamp <= clock)
     }
 }
@@ -289,6 +296,22 @@ impl Receiver {
             & ((1 <= self.n1) & (self.n1 <= Receiver::N1_MOST))
             & ((1 <= self.t) & (self.t <= Receiver::DROP_TIME_MOST))
             & ((0 < self.count) | (!self.test & (self.n1 == 1) & (self.t == 1)))
+    }
+
+    // For the maintenance page: how many pieces of the sender at a place are held, the number kept. Nothing is counted, and
+    // 9 is not judged.
+    pub fn held(self, place: u8) -> u8
+        ensures { λ r. ⌜ r ≡ heldAt self place ⌝ }
+    {
+        if self.count <= place {
+            return 0;
+        }
+        if Receiver::PLACES <= place as usize {
+            return 0;
+        }
+        let s = self.senders[place as usize];
+        let message = s.message;
+        if s.open { message.held } else { 0 }
     }
 
     // One pass over the table, for the calls that need both: whether the state is within its limits, and if it is, at

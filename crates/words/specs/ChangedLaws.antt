@@ -3,6 +3,7 @@ use Prim.Native.Nat.{ℕ, _+_, _*_, _/_, _%_, _<_}
 use mathlib.Core.Path.{_≡_, refl}
 use mathlib.Core.Bool.{Bool, true, false, not, _&&_, _||_}
 use native.Mathlib.Omega.{arith}
+use lib.Count.{ones-le}
 use lib.Dec.{leb, ltb}
 use borrow.Author.Tests.{leb-true, lt-ltb}
 use Rattle.octets.specs.Split.{and-left, and-right}
@@ -44,8 +45,8 @@ last-short l e = omega (arith, leb-true (l .number .0) M (and-left (leb (l .numb
 
 -- A message whose numbers their octets hold.
 message-there : (r : Record) (m : Message) → r .message ≡ pair (m .version .0) (m .number .0) → r .cut ≡ cutWord m → r .map ≡ m .map → r .stamp ≡ m .stamp
-    → m .number .0 < half → m .n < 65536 → m .u < 65536 → m .tbn < 65536 → messageIn r ≡ m
-message-there r m e f g d number n u t =
+    → m .number .0 < half → m .n < 65536 → m .u < 65536 → m .held < 256 → m .tbn < 256 → messageIn r ≡ m
+message-there r m e f g d number n u k t =
     let v = m .version .0 in
     let s = m .number .0 in
     let w = cutWord m in
@@ -54,10 +55,12 @@ message-there r m e f g d number n u t =
     let a3 : w / 281474976710656 ≡ m .tcd = omega arith in
     let front : w / half ≡ m .tcd * 65536 + m .n = omega arith in
     let a4 : w / half % 65536 ≡ m .n = rw front (omega arith) in
-    let a5 : w % 65536 ≡ m .tbn = omega arith in
+    let a5 : w % 256 ≡ m .tbn = omega arith in
     let most : w / 65536 ≡ (m .tcd * 65536 + m .n) * 65536 + m .u = omega arith in
     let a6 : w / 65536 % 65536 ≡ m .u = rw most (omega arith) in
-    rw (e, f, g, d, a1, a2, a3, a4, a5, a6)
+    let all : w / 256 ≡ ((m .tcd * 65536 + m .n) * 65536 + m .u) * 256 + m .held = omega arith in
+    let a7 : w / 256 % 256 ≡ m .held = rw all (omega arith) in
+    rw (e, f, g, d, a1, a2, a3, a4, a5, a6, a7)
 
 within-there : (clock : ℕ) (r : Record) (m : Message) → messageWithin clock m ≡ true → r .message ≡ pair (m .version .0) (m .number .0)
     → r .cut ≡ cutWord m → r .map ≡ m .map → r .stamp ≡ m .stamp → messageIn r ≡ m
@@ -65,7 +68,9 @@ within-there clock r m ok e f g d =
     let facts = message-facts clock m ok in
     let several = several-facts (m .n) (m .tbn) (m .u) (facts .cut) in
     let number = leb-true (m .number .0) M (and-right (leb 1 (m .number .0)) (leb (m .number .0) M) (facts .number)) in
-    message-there r m e f g d (omega arith) (omega (arith, several .big)) (omega (arith, several .high)) (omega (arith, several-most (m .n) (m .tbn) (m .u) several))
+    let most = several-most (m .n) (m .tbn) (m .u) several in
+    let held = ones-le (m .tbn) (m .map) (omega (arith, facts .not-full)) in
+    message-there r m e f g d (omega arith) (omega (arith, several .big)) (omega (arith, several .high)) (omega (arith, facts .held, held, most)) (omega (arith, most))
 
 -- ---- a message call
 

@@ -3,24 +3,10 @@
 use Prim.Native.Nat.{_/_, _%_}
 use mathlib.Core.Bool.{cond}
 use Rattle.state.specs.declared.Heard.{Heard}
-use Rattle.state.specs.declared.Message.{Message}
 use Rattle.state.specs.declared.Sender.{Sender}
 use Rattle.state.specs.State.{noMessage, noHeard}
 use Rattle.words.specs.declared.Record.{Record}
 use Rattle.words.specs.Words.{half, lastIn, messageIn, flag}
-
--- The open message, TBN in one octet.
-abbrev pub narrowed : Record → Message
-narrowed r = record {
-  version = messageIn r .version;
-  number = messageIn r .number;
-  tcd = messageIn r .tcd;
-  n = messageIn r .n;
-  tbn = messageIn r .tbn % 256;
-  u = messageIn r .u;
-  map = r .map;
-  stamp = r .stamp;
-}
 
 -- When an alive sender was heard, al_tm_out in four octets.
 abbrev pub heardShown : Record → Heard
@@ -31,7 +17,7 @@ shown r = record {
   address = record { field = record { 0 = r .address / 65536 % 256 }; node = record { 0 = r .address % 65536 } };
   last = lastIn (r .last);
   «open» = flag (r .«open»);
-  message = cond (flag (r .«open»)) (narrowed r) noMessage;
+  message = cond (flag (r .«open»)) (messageIn r) noMessage;
   alive = flag (r .alive);
   heard = heardShown r;
 }

@@ -74,9 +74,9 @@ half = 4294967296
 abbrev pub pair : ℕ → ℕ → ℕ
 pair version number = version * half + number
 
--- TCD, n, u and TBN, two octets each.
+-- TCD, n and u, two octets each; how many pieces are held and TBN, one each.
 abbrev pub cutWord : Message → ℕ
-cutWord m = m .tcd * 281474976710656 + m .n * half + m .u * 65536 + m .tbn
+cutWord m = m .tcd * 281474976710656 + m .n * half + m .u * 65536 + m .held * 256 + m .tbn
 
 -- ---- what one sender's words say
 
@@ -89,7 +89,8 @@ messageIn r = record {
   number = record { 0 = r .message % half };
   tcd = r .cut / 281474976710656;
   n = r .cut / half % 65536;
-  tbn = r .cut % 65536;
+  tbn = r .cut % 256;
+  held = r .cut / 256 % 256;
   u = r .cut / 65536 % 65536;
   map = r .map;
   stamp = r .stamp;

@@ -15,16 +15,15 @@ use Rattle.octets.specs.Run.{laid}
 use Rattle.octets.specs.RunLaws.{laid-fits}
 use Rattle.octets.specs.Split.{and-left, and-right}
 use Rattle.header.specs.Codes.{isDataField, isNode}
-use Rattle.cut.specs.PossibleLaws.{several-facts, several-most}
 use Rattle.state.specs.declared.Address.{Address}
 use Rattle.state.specs.Key.{Narrow}
-use Rattle.state.specs.Limits.{messageWithin, senderWithin}
-use Rattle.state.specs.State.{noMessage, noHeard}
-use Rattle.state.specs.WithinLaws.{if-so, message-facts, sender-facts}
+use Rattle.state.specs.Limits.{senderWithin}
+use Rattle.state.specs.State.{noHeard}
+use Rattle.state.specs.WithinLaws.{if-so, sender-facts}
 use Rattle.rules.specs.calls.Alike.{seen}
 use Rattle.words.specs.declared.Record.{Record}
-use Rattle.words.specs.Words.{place, each, word, recordIn, recordWords, noRecord, recordAt, half, flag, flagWord, addressIn, addressWord, messageIn, senderOf, fits}
-use Rattle.words.specs.Shown.{narrowed, heardShown, shown}
+use Rattle.words.specs.Words.{place, each, word, recordIn, recordWords, noRecord, recordAt, half, flag, flagWord, addressIn, addressWord, senderOf, fits}
+use Rattle.words.specs.Shown.{heardShown, shown}
 
 -- ---- flags
 
@@ -79,15 +78,6 @@ put-laid l at r h =
 
 -- ---- what is looked at
 
--- No message within its limits has as many pieces as an octet can't count.
-pub pieces-few : (clock : ℕ) (r : Record) → messageWithin clock (messageIn r) ≡ true → messageIn r .tbn ≤ 64
-pieces-few clock r e =
-    let m = messageIn r in
-    several-most (m .n) (m .tbn) (m .u) (several-facts (m .n) (m .tbn) (m .u) (message-facts clock m e .cut))
-
-pub narrowed-same : (r : Record) → messageIn r .tbn < 256 → narrowed r ≡ messageIn r
-narrowed-same r h = rw (mod-eq-of-lt h)
-
 cond-same : {A : Type 0} (b : Bool) {x y : A} (z : A) → (b ≡ true → x ≡ y) → cond b x z ≡ cond b y z
 cond-same true z e = e refl
 cond-same false z e = refl
@@ -102,10 +92,6 @@ module _ (clock : ℕ) (r : Record) (within : fits r && senderWithin clock (send
       let is-field = and-left (isDataField field) (isNode (r .address % 65536)) (sender-facts clock (senderOf r) is-within .address) in
       mod-eq-of-lt (omega (arith, leb-true field 255 (and-right (leb 1 field) (leb field 255) is-field)))
 
-  message-same : cond (flag (r .«open»)) (narrowed r) noMessage ≡ cond (flag (r .«open»)) (messageIn r) noMessage
-  message-same = cond-same (flag (r .«open»)) noMessage
-      (λ yes. narrowed-same r (omega (arith, pieces-few clock r (sender-facts clock (senderOf r) is-within .message yes))))
-
   heard-same : heardShown r ≡ cond (flag (r .alive)) (senderOf r .heard) noHeard
   unfolding fits
   heard-same = cond-same (flag (r .alive)) noHeard
@@ -116,4 +102,4 @@ module _ (clock : ℕ) (r : Record) (within : fits r && senderWithin clock (send
   -- Nothing that is looked at is lost where the words fit.
   pub shown-seen : shown r ≡ seen (senderOf r)
   unfolding shown seen
-  shown-seen = rw (one-octet, message-same, heard-same)
+  shown-seen = rw (one-octet, heard-same)

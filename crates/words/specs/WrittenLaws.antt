@@ -5,7 +5,7 @@ use mathlib.Core.Path.{_≡_, refl, sym, ap, _∙_}
 use mathlib.Core.Logic.{_≢_, _⊎_, inl, inr, ⊎-elim}
 use mathlib.Core.Bool.{true, _&&_}
 use mathlib.Core.List.{List, [], _∷_, _++_, append-assoc}
-use native.Mathlib.Nat.{div-add-mod'}
+use native.Mathlib.Nat.{add-assoc, div-add-mod'}
 use native.Mathlib.Numerals.{unary-clauses, lt-of-le-of-ne}
 use native.Mathlib.Omega.{arith}
 use lib.Dec.{leb}
@@ -32,8 +32,17 @@ flag-back zero h = refl
 flag-back (suc zero) h = refl
 flag-back (suc (suc w)) h = absurd (omega arith)
 
-cut-back : (w : ℕ) → w / 281474976710656 * 281474976710656 + w / half % 65536 * half + w / 65536 % 65536 * 65536 + w % 65536 ≡ w
-cut-back w = omega arith
+-- The last two octets, and the word by two octets each.
+two-back : (w : ℕ) → w / 256 % 256 * 256 + w % 256 ≡ w % 65536
+two-back w = omega arith
+
+quarters-back : (w : ℕ) → w / 281474976710656 * 281474976710656 + w / half % 65536 * half + w / 65536 % 65536 * 65536 + w % 65536 ≡ w
+quarters-back w = omega arith
+
+cut-back : (w : ℕ) → w / 281474976710656 * 281474976710656 + w / half % 65536 * half + w / 65536 % 65536 * 65536 + w / 256 % 256 * 256 + w % 256 ≡ w
+cut-back w =
+    let front = w / 281474976710656 * 281474976710656 + w / half % 65536 * half + w / 65536 % 65536 * 65536 in
+    add-assoc front (w / 256 % 256 * 256) (w % 256) ∙ rw (two-back w) (quarters-back w)
 
 pub record-back : (r : Record) → fits r ≡ true → recordOf (senderOf r) ≡ r
 unfolding fits

@@ -9,8 +9,8 @@ ghost use mathlib.Core.Bool.{cond};
 ghost use lib.ListN.{set as setAt};
 ghost use Rattle.octets.specs.Run.{laid};
 ghost use Rattle.state.specs.State.{noMessage};
-ghost use Rattle.words.specs.Words.{place, word, flag, recordAt, recordWords, recordOf, joinedBy, heardAs, pair as pairOf, cutWord};
-ghost use Rattle.words.specs.Shown.{heardShown, narrowed, shown};
+ghost use Rattle.words.specs.Words.{place, word, messageIn, flag, recordAt, recordWords, recordOf, joinedBy, heardAs, pair as pairOf, cutWord};
+ghost use Rattle.words.specs.Shown.{heardShown, shown};
 use header::codes::DataField;
 use header::codes::Node;
 use ring::Number;
@@ -57,7 +57,7 @@ pub struct Record {
     pub open: u64,
     // its version and number
     pub message: u64,
-    // its code, length, unit and number of pieces
+    // its code, length and unit, how many pieces are held, and of how many
     pub cut: u64,
     pub map: u64,
     pub stamp: u64,
@@ -132,7 +132,7 @@ impl Record {
 
     // The open message.
     fn message_of(self) -> Message
-        ensures { λ r. ⌜ r ≡ narrowed self ⌝ }
+        ensures { λ r. ⌜ r ≡ messageIn self ⌝ }
     {
         let version = Version((self.message / HALF) as u32);
         let number = Number((self.message % HALF) as u32);
@@ -141,7 +141,8 @@ impl Record {
             number,
             tcd: (self.cut / (HALF * QUARTER)) as u16,
             n: (self.cut / HALF % QUARTER) as u16,
-            tbn: (self.cut % QUARTER % 256) as u8,
+            tbn: (self.cut % 256) as u8,
+            held: (self.cut / 256 % 256) as u8,
             u: (self.cut / QUARTER % QUARTER) as u16,
             map: self.map,
             stamp: self.stamp,
@@ -149,7 +150,7 @@ impl Record {
     }
 
     fn open_message(self) -> Message
-        ensures { λ r. ⌜ r ≡ cond (flag (self .«open»)) (narrowed self) noMessage ⌝ }
+        ensures { λ r. ⌜ r ≡ cond (flag (self .«open»)) (messageIn self) noMessage ⌝ }
     {
         if self.open == 1 {
             return self.message_of();
@@ -239,5 +240,9 @@ fn pair(version: Version, number: Number) -> u64
 fn cut_of(m: Message) -> u64
     ensures { λ r. ⌜ r ≡ cutWord m ⌝ }
 {
-    m.tcd as u64 * (HALF * QUARTER) + m.n as u64 * HALF + m.u as u64 * QUARTER + m.tbn as u64
+    m.tcd as u64 * (HALF * QUARTER)
+        + m.n as u64 * HALF
+        + m.u as u64 * QUARTER
+        + m.held as u64 * 256
+        + m.tbn as u64
 }

@@ -11,6 +11,7 @@ ghost use Rattle.words_look.specs.Look.{isHeld, placeIn, lookIn};
 ghost use Rattle.words_look.specs.private.Tests.{eachSetting, settingsFit, recordWithin, Sized, recordsWithin, noneTwice, aliveWithin, openWithin, cutWithin};
 use cut::possible::several;
 use header::codes::code_of;
+use map::held;
 use map::is_partial;
 use ring::M;
 use state::Address;
@@ -215,23 +216,19 @@ fn message_within(s: &[u64], clock: u64) -> bool
     cut_within(at(s, places::CUT), at(s, places::MAP))
 }
 
-// The open message's code, its cut and its map.
+// The open message's code, its cut and its map, and how many pieces are held.
 fn cut_within(cut: u64, map: u64) -> bool
     ensures { λ r. ⌜ r ≡ cutWithin cut map ⌝ }
 {
-    // no message has so many pieces
-    if 255 < cut % QUARTER {
-        return false;
-    }
     let code = code_of((cut / (HALF * QUARTER)) as u16);
     if !code.is_user() {
         return false;
     }
-    let tbn = (cut % QUARTER % 256) as u8;
+    let tbn = (cut % 256) as u8;
     let n = (cut / HALF % QUARTER) as u32;
     let u = (cut / QUARTER % QUARTER) as u32;
     if !several(n, tbn, u) {
         return false;
     }
-    is_partial(map, tbn)
+    is_partial(map, tbn) & ((cut / 256 % 256) as u32 == held(map))
 }

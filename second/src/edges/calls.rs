@@ -52,8 +52,8 @@ pub fn settings(state: &Receiver) -> Vec<u8> {
 
 /// Octets of each value of a record: "place (1), field (1), node (2), rv (4),
 /// r (4), open (1), version (4), number (4), tcd (2), n (2), tbn (1), u (2),
-/// map (8), stamp (8), alive (1), heard-stamp (8), al_tm_out (4)".
-const RECORD: [usize; 17] = [1, 1, 2, 4, 4, 1, 4, 4, 2, 2, 1, 2, 8, 8, 1, 8, 4];
+/// map (8), held (1), stamp (8), alive (1), heard-stamp (8), al_tm_out (4)".
+const RECORD: [usize; 18] = [1, 1, 2, 4, 4, 1, 4, 4, 2, 2, 1, 2, 8, 1, 8, 1, 8, 4];
 
 /// "damage: the record at a place becomes this one".
 pub fn record(place: usize, sender: &Sender) -> Vec<u8> {

@@ -2,7 +2,8 @@
 //! setting, sender, time, last number, open SEQ or open code outside this paper's
 //! limits, a stamp after the clock, last number 0 under a version not 0, or an
 //! open message with an impossible cut or a map that is empty, full or marked
-//! past TBN".
+//! past TBN"; and 02's, of the kept count and the number of ones in the map: "a
+//! state where they differ meets 9".
 
 use crate::dice::Dice;
 use crate::numbers::M;
@@ -20,7 +21,7 @@ const fn clause(name: &'static str, damage: fn(&mut Receiver, usize, &mut Dice))
     Clause { name, damage }
 }
 
-pub const CLAUSES: [Clause; 18] = [
+pub const CLAUSES: [Clause; 19] = [
     clause("N1", |state, _, dice| {
         state.n1 = dice.one_of(&[0, 1_025, u16::MAX])
     }),
@@ -61,15 +62,17 @@ pub const CLAUSES: [Clause; 18] = [
         |state, at, dice| state.senders[at].alive_stamp = dice.one_of(&[state.clock + 1, u64::MAX]),
     ),
     clause("impossible cut", impossible_cut),
-    clause("map empty", |state, at, _| open(state, at).map = 0),
+    clause("map empty", |state, at, _| set_map(open(state, at), 0)),
     clause("map full", |state, at, _| {
         let open = open(state, at);
-        open.map = full_map(open.tbn)
+        set_map(open, full_map(open.tbn))
     }),
     clause("map marked past TBN", |state, at, dice| {
         let open = open(state, at);
-        open.map |= 1 << dice.between(open.tbn.into(), 63)
+        let past = 1 << dice.between(open.tbn.into(), 63);
+        set_map(open, open.map | past)
     }),
+    clause("held count", held_count),
 ];
 
 fn any_sender<'a>(state: &'a mut Receiver, dice: &mut Dice) -> &'a mut Sender {
@@ -79,6 +82,12 @@ fn any_sender<'a>(state: &'a mut Receiver, dice: &mut Dice) -> &'a mut Sender {
 
 fn open(state: &mut Receiver, at: usize) -> &mut OpenMessage {
     &mut state.senders[at].message
+}
+
+/// The map alone is outside: the number of pieces held is that of its ones.
+fn set_map(open: &mut OpenMessage, map: u64) {
+    open.map = map;
+    open.held = map.count_ones() as u8;
 }
 
 fn a_pair_twice(state: &mut Receiver, at: usize, dice: &mut Dice) {
@@ -112,6 +121,12 @@ fn no_senders(state: &mut Receiver, _: usize, dice: &mut Dice) {
         (false, 16, 15_000),
     ];
     (state.test, state.n1, state.t) = dice.one_of(&others);
+}
+
+/// Too few, too many, none, and as many as an octet can say.
+fn held_count(state: &mut Receiver, at: usize, dice: &mut Dice) {
+    let open = open(state, at);
+    open.held = dice.one_of(&[0, open.held - 1, open.held + 1, 255]);
 }
 
 /// The cut alone is outside: TBN never falls below the pieces that are held.
@@ -153,6 +168,7 @@ mod tests {
             tbn: 4,
             u: 1_332,
             map: 0b0101,
+            held: 2,
             stamp: 1_000,
         };
         state
@@ -167,6 +183,27 @@ mod tests {
                 let mut damaged = busy();
                 (clause.damage)(&mut damaged, 1, &mut dice);
                 assert!(!within_limits(&damaged), "{}: {damaged:?}", clause.name);
+            }
+        }
+    }
+
+    /// The kept count is outside in its own clause alone, and nothing else is.
+    #[test]
+    fn each_clause_but_one_leaves_the_count_of_the_map() {
+        let mut dice = Dice::new(2);
+        for clause in CLAUSES {
+            for _ in 0..50 {
+                let mut damaged = busy();
+                (clause.damage)(&mut damaged, 1, &mut dice);
+                let differs = damaged.senders.iter().any(|sender| {
+                    let message = &sender.message;
+                    sender.open && u32::from(message.held) != message.map.count_ones()
+                });
+                assert_eq!(differs, clause.name == "held count", "{}", clause.name);
+                if differs {
+                    damaged.senders[1].message.held = 2;
+                    assert_eq!(damaged, busy());
+                }
             }
         }
     }

@@ -13,6 +13,7 @@ pub fn sections(past: &mut Past) {
     never_looked_at(past);
     no_senders(past);
     written_over(past);
+    count_of_damaged_states(past);
 }
 
 /// "Each row of these sections starts with fresh() and then makes, printing
@@ -60,24 +61,25 @@ fn change_sender(past: &mut Past, place: usize, change: impl Fn(&mut Sender)) {
 
 /// 01's 9 names what is judged: "a setting, sender, time, last number, open SEQ
 /// or open code outside this paper's limits, a stamp after the clock, last number
-/// 0 under a version not 0". First of the settings and the time.
+/// 0 under a version not 0"; 02 adds the kept count. First of the settings and the
+/// time.
 const STATE_CHANGES: [fn(&mut Receiver); 6] = [
     |state| state.n1 = 0,
     |state| state.n1 = 1_025,
     |state| state.t = 0,
     |state| state.t = 600_001,
     |state| state.clock = 1_099_511_627_777,
-    seventeen_senders,
+    |state| more_senders(state, 17),
 ];
 
 /// "one that holds a list has 17 senders in it, those from place 2 on unheard".
-fn seventeen_senders(state: &mut Receiver) {
+fn more_senders(state: &mut Receiver, count: u32) {
     let unheard = |(field, node)| Sender {
         field,
         node,
         ..Sender::default()
     };
-    let more = senders(17, (2, 9)).into_iter().skip(2).map(unheard);
+    let more = senders(count, (2, 9)).into_iter().skip(2).map(unheard);
     state.senders.extend(more);
 }
 
@@ -85,7 +87,7 @@ fn seventeen_senders(state: &mut Receiver) {
 type SenderChange = (usize, fn(&mut Sender));
 
 /// Then of one sender.
-const SENDER_CHANGES: [SenderChange; 13] = [
+const SENDER_CHANGES: [SenderChange; 16] = [
     (1, |sender| sender.field = 0),
     (1, |sender| sender.node = 0),
     (1, |sender| sender.node = 4_096),
@@ -99,6 +101,9 @@ const SENDER_CHANGES: [SenderChange; 13] = [
     (0, |sender| sender.message.tcd = 60_000),
     (0, |sender| sender.message.stamp = 1_001),
     (0, |sender| sender.alive_stamp = 1_001),
+    (0, |sender| sender.message.held = 0),
+    (0, |sender| sender.message.held = 2),
+    (0, |sender| sender.message.held = 255),
 ];
 
 fn one_value_changed(past: &mut Past) {
@@ -112,32 +117,38 @@ fn one_value_changed(past: &mut Past) {
     }
 }
 
-/// n, tbn, u, map.
-const CUTS_AND_MAPS: [(u16, u8, u16, u64); 14] = [
-    (4_500, 1, 1_332, 2),
-    (4_500, 65, 1_332, 2),
-    (1_000, 4, 255, 2),
-    (4_500, 4, 1_397, 2),
-    (3_996, 4, 1_332, 2),
-    (3_997, 4, 1_332, 2),
-    (5_328, 4, 1_332, 2),
-    (5_329, 4, 1_332, 2),
-    (16_385, 12, 1_396, 2),
-    (4_500, 4, 1_332, 0),
-    (4_500, 4, 1_332, 15),
-    (4_500, 4, 1_332, 18),
-    (16_384, 64, 256, 18_446_744_073_709_551_614),
-    (16_384, 64, 256, 18_446_744_073_709_551_615),
+/// n, tbn, u, map, held.
+const CUTS_AND_MAPS: [(u16, u8, u16, u64, u8); 19] = [
+    (4_500, 1, 1_332, 2, 1),
+    (4_500, 65, 1_332, 2, 1),
+    (1_000, 4, 255, 2, 1),
+    (4_500, 4, 1_397, 2, 1),
+    (3_996, 4, 1_332, 2, 1),
+    (3_997, 4, 1_332, 2, 1),
+    (5_328, 4, 1_332, 2, 1),
+    (5_329, 4, 1_332, 2, 1),
+    (16_385, 12, 1_396, 2, 1),
+    (4_500, 4, 1_332, 0, 0),
+    (4_500, 4, 1_332, 15, 4),
+    (4_500, 4, 1_332, 18, 2),
+    (16_384, 64, 256, 18_446_744_073_709_551_614, 63),
+    (16_384, 64, 256, 18_446_744_073_709_551_615, 64),
+    (4_500, 4, 1_332, 6, 2),
+    (4_500, 4, 1_332, 6, 1),
+    (4_500, 4, 1_332, 6, 3),
+    (16_384, 64, 256, 18_446_744_073_709_551_614, 62),
+    (16_384, 64, 256, 18_446_744_073_709_551_614, 64),
 ];
 
 /// 9, of "an open message with an impossible cut or a map that is empty, full or
-/// marked past TBN".
+/// marked past TBN", and where the kept count is not that of the map's ones.
 fn cut_and_map(past: &mut Past) {
     past.section("8.2 Cut and map of the open message");
-    for (n, tbn, u, map) in CUTS_AND_MAPS {
+    for (n, tbn, u, map, held) in CUTS_AND_MAPS {
         let change = |sender: &mut Sender| {
             let open = &mut sender.message;
-            (open.n, open.tbn, open.u, open.map) = (n, tbn, u, map);
+            (open.n, open.tbn, open.u) = (n, tbn, u);
+            (open.map, open.held) = (map, held);
         };
         row(past, |past| change_sender(past, 0, change));
     }
@@ -162,6 +173,7 @@ fn not_open(sender: &mut Sender) {
         tbn: 1,
         u: 0,
         map: u64::MAX,
+        held: 255,
         stamp: u64::MAX,
     };
 }
@@ -179,6 +191,10 @@ fn a_place_past_the_senders(past: &mut Past) {
         node: 7,
         last_version: 5,
         open: true,
+        message: OpenMessage {
+            held: 255,
+            ..OpenMessage::default()
+        },
         alive: true,
         alive_stamp: u64::MAX,
         ..Sender::default()
@@ -234,5 +250,48 @@ fn written_over(past: &mut Past) {
         });
         calls(past);
         past.show();
+    }
+}
+
+/// What each row changes. A place past the senders is written alone, as in 8.3;
+/// with a count that reaches it, the count is written first.
+const COUNTED: [fn(&mut Past); 11] = [
+    |_| (),
+    |past| change_sender(past, 0, |sender| sender.message.held = 0),
+    |past| change_sender(past, 0, |sender| sender.message.held = 255),
+    |past| {
+        change_sender(past, 0, |sender| {
+            (sender.open, sender.message.held) = (false, 255)
+        })
+    },
+    |past| change_state(past, |state| state.n1 = 0),
+    |past| change_state(past, |state| state.senders.clear()),
+    |past| change_state(past, |state| state.senders.truncate(1)),
+    |past| change_state(past, |state| more_senders(state, 17)),
+    |past| change_state(past, |state| more_senders(state, 255)),
+    |past| past.write('r', &calls::record(2, &nine_held())),
+    |past| {
+        change_state(past, |state| more_senders(state, 3));
+        change_sender(past, 2, |sender| *sender = nine_held());
+    },
+];
+
+/// "open 1, held 9, all else 0".
+fn nine_held() -> Sender {
+    let mut sender = Sender {
+        open: true,
+        ..Sender::default()
+    };
+    sender.message.held = 9;
+    sender
+}
+
+/// The number kept is told of any state: nothing is counted, and no 9 is judged.
+fn count_of_damaged_states(past: &mut Past) {
+    past.section("8.6 The count of a damaged state");
+    for damage in COUNTED {
+        make_busy(past);
+        damage(past);
+        past.held_at(&[0, 1, 2, 15, 16, 255]);
     }
 }

@@ -66,14 +66,34 @@ impl Library {
         places
     }
 
-    /// The question after every few calls, and the state now and then.
+    /// The question and a kept count after every few calls, and the state now and
+    /// then.
     fn look(&mut self) {
         if self.dice.one_in(4) {
             self.past.ask();
         }
+        if self.dice.one_in(4) {
+            self.held_somewhere();
+        }
         if self.dice.one_in(40) {
             self.past.show();
         }
+    }
+
+    /// The kept count at some place: of a sender with an open message, if there is
+    /// one, of any sender, at the count, past it, at 16, at 255.
+    pub fn held_somewhere(&mut self) {
+        let senders = &self.past.receiver.senders;
+        let count = senders.len() as u64;
+        let open: Vec<u64> = (0..count).filter(|at| senders[*at as usize].open).collect();
+        let any = self.dice.below(count.max(1));
+        let busy = match open[..] {
+            [] => any,
+            _ => self.dice.one_of(&open),
+        };
+        let past = self.dice.between(count, 255);
+        let places = [busy, busy, busy, any, any, count, past, 16, 255];
+        self.past.held(self.dice.one_of(&places) as u8);
     }
 
     /// How many octets of storage a message call is to be lent.
@@ -113,6 +133,7 @@ impl Library {
         let ms = self.dice.below(1_000);
         scenes::tick(self, ms);
         self.past.ask();
+        self.held_somewhere();
         self.past.show();
     }
 }

@@ -2,11 +2,13 @@
 //! with another number. Titles name the clause, so that the lines under them can
 //! be held to it:
 //!
-//! - under "9 alone: CLAUSE" all lines of calls give 9;
+//! - under "9 alone: CLAUSE" all lines of calls that judge 9 give 9;
 //! - under "9 and NUMBER: CLAUSE" stand two lines of the same call, NUMBER before
 //!   the damage and 9 after it;
 //! - under "mended: CLAUSE" stand first the calls of "9 alone" once more, without
 //!   the damage, and give 0 or 1.
+//!
+//! On every damaged state stand held calls too, which judge no 9.
 
 use super::clauses::{Clause, CLAUSES};
 use super::library::Library;
@@ -70,13 +72,15 @@ fn good_calls(library: &mut Library, busy: &Busy) {
     past.ask();
 }
 
-/// Damages the state, makes the calls, and mends it.
+/// Damages the state, makes the calls, asks for kept counts, and mends it.
 fn damaged(library: &mut Library, clause: &Clause, at: usize, calls: impl Fn(&mut Library)) {
     let before = library.past.receiver.clone();
     let mut damaged = before.clone();
     (clause.damage)(&mut damaged, at, &mut library.dice);
     library.past.damage_to(damaged);
     calls(library);
+    library.past.held(at as u8);
+    library.held_somewhere();
     library.past.damage_to(before);
 }
 

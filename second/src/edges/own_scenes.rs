@@ -1,5 +1,5 @@
 //! Scenes that a capture cannot show: all senders at once, storage of another
-//! length, the cutter, parts, and states that no past leaves.
+//! length, the cutter, parts, kept counts, and states that no past leaves.
 
 use super::cutting::cut_with;
 use super::library::Library;
@@ -17,7 +17,7 @@ use crate::state::{OpenMessage, Sender, Setup, AREA, SENDERS_MOST};
 pub type OwnScene = fn(&mut Library);
 
 /// The deck of them. A scene that stands twice is played twice as often.
-pub const OWN_SCENES: [OwnScene; 10] = [
+pub const OWN_SCENES: [OwnScene; 11] = [
     refused_counts,
     all_senders,
     all_senders,
@@ -27,6 +27,7 @@ pub const OWN_SCENES: [OwnScene; 10] = [
     parts,
     never_looked_at,
     other_count,
+    other_held,
     damaged_states,
 ];
 
@@ -207,6 +208,7 @@ fn never_looked_at(library: &mut Library) {
     }
     library.past.damage_to(state);
     library.past.show();
+    library.past.held(at as u8);
     let next = scenes::following(library, at, 1);
     let next = scenes::short(library, next);
     match library.dice.below(3) {
@@ -227,6 +229,7 @@ fn any_record(dice: &mut Dice) -> OpenMessage {
         tbn: dice.throw() as u8,
         u: dice.throw() as u16,
         map: dice.one_of(&[0, 1, u64::MAX]),
+        held: dice.throw() as u8,
         stamp: dice.throw(),
     }
 }
@@ -250,5 +253,29 @@ fn other_count(library: &mut Library) {
     }
     library.past.damage_to(state);
     library.past.show();
+    // At the last sender, at those that stood behind it, and past all.
+    let left = library.past.receiver.senders.len();
+    for place in left - 1..=count.max(left) {
+        library.past.held(place as u8);
+    }
     all_senders(library);
+}
+
+// ---- kept counts
+
+/// The number kept is told as it stands, whatever the map says: none, the right
+/// one, any, as many as there can be, and as many as an octet can say.
+fn other_held(library: &mut Library) {
+    let (at, _, _) = scenes::open_one(library, 1);
+    let before = library.past.receiver.clone();
+    let right = before.senders[at].message.held;
+    let any = library.dice.throw() as u8;
+    for held in [0, right, any, 64, 255] {
+        let mut state = before.clone();
+        state.senders[at].message.held = held;
+        library.past.damage_to(state);
+        library.past.held(at as u8);
+        library.held_somewhere();
+    }
+    library.past.damage_to(before);
 }

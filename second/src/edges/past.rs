@@ -209,6 +209,19 @@ impl Past {
         self.made('Q', &[], &line);
     }
 
+    /// "H held".
+    pub fn held(&mut self, place: u8) {
+        let held = self.receiver.held(place.into());
+        self.made('H', &[place], &format!("H {held}"));
+    }
+
+    /// The kept count at each of these places.
+    pub fn held_at(&mut self, places: &[u8]) {
+        for place in places {
+            self.held(*place);
+        }
+    }
+
     /// Damage: the state in use becomes this one, by fields for all that differs.
     /// The settings come first, since a record stands at a place that the count
     /// gives.
@@ -240,7 +253,7 @@ impl Past {
     }
 }
 
-/// "w place field node rv r open version number tcd n tbn u map stamp alive
+/// "w place field node rv r open version number tcd n tbn u map held stamp alive
 /// heard-stamp al_tm_out".
 fn sender_line((place, sender): (usize, &Sender)) -> String {
     format!("w {}", joined(&values_of(place, sender)))

@@ -13,7 +13,7 @@ pub fn senders(count: u32, second: (u8, u16)) -> Vec<(u8, u16)> {
 }
 
 /// All values of a sender's record, "in the order of the w line".
-pub fn values_of(place: usize, sender: &Sender) -> [u64; 17] {
+pub fn values_of(place: usize, sender: &Sender) -> [u64; 18] {
     let open = &sender.message;
     [
         place as u64,
@@ -29,6 +29,7 @@ pub fn values_of(place: usize, sender: &Sender) -> [u64; 17] {
         open.tbn.into(),
         open.u.into(),
         open.map,
+        open.held.into(),
         open.stamp,
         sender.alive.into(),
         sender.alive_stamp,

@@ -70,6 +70,7 @@ impl Replay {
             'C' => self.clock(Contents(contents)),
             'Q' => self.ask(),
             'W' => self.show(),
+            'H' => self.held(Contents(contents)),
             'T' => self.damage_state(Contents(contents)),
             'K' => cut(Contents(contents)),
             'R' if tag == 'r' => self.damage_sender(Contents(contents)),
@@ -140,6 +141,14 @@ impl Replay {
         lines
     }
 
+    /// "Where a state has a count above 16, places 16 and above give 0."
+    fn held(&self, mut contents: Contents) -> String {
+        let place = contents.number(1) as usize;
+        let sender = self.state.senders.get(place).filter(|_| place < 16);
+        let open = sender.filter(|sender| sender.open);
+        format!("H {}", open.map_or(0, |sender| sender.message.held))
+    }
+
     fn damage_state(&mut self, mut contents: Contents) -> String {
         self.state.test = contents.number(1) == 1;
         self.state.n1 = contents.number(2) as u16;
@@ -179,7 +188,7 @@ fn sender_line(place: usize, sender: &Sender) -> String {
     let (o, open, alive) = (&sender.message, sender.open as u8, sender.alive as u8);
     let last = format!("{} {}", sender.last_version, sender.last_number);
     let named = format!("{} {} {} {} {}", o.version, o.seq, o.tcd, o.n, o.tbn);
-    let cut = format!("{} {} {}", o.u, o.map, o.stamp);
+    let cut = format!("{} {} {} {}", o.u, o.map, o.held, o.stamp);
     let heard = format!("{alive} {} {}", sender.alive_stamp, sender.al_tm_out);
     let pair = format!("{} {}", sender.field, sender.node);
     format!("w {place} {pair} {last} {open} {named} {cut} {heard}\n")
@@ -200,6 +209,7 @@ fn sender_of(mut contents: Contents) -> Sender {
             tbn: contents.number(1) as u8,
             u: contents.number(2) as u16,
             map: contents.number(8),
+            held: contents.number(1) as u8,
             stamp: contents.number(8),
         },
         alive: contents.number(1) == 1,

@@ -1,10 +1,9 @@
 -- What one sender's record makes of a PDU that has come as far as its sender: the numbers 15 to 20, and what an
 -- admitted PDU does (D.4.4; "we follow the prose").
-use Prim.Native.Nat.{ℕ}
+use Prim.Native.Nat.{ℕ, _+_}
 use mathlib.Core.Bool.{Bool, true, false, not, cond, _&&_, _||_}
 use mathlib.Core.List.{List, [], _∷_}
-use lib.Count.{ones}
-use lib.Dec.{eqb}
+use lib.Dec.{eqb, ltb}
 use Rattle.ring.specs.declared.Verdict.{Verdict}
 use Rattle.ring.specs.Check.{check, isRepeat, isUnchecked}
 use Rattle.ring.specs.Ring.{newer}
@@ -68,6 +67,18 @@ mapBefore s h = cond (rejoins s h) (s .message .map) 0
 unfoldable pub mapAfter : Sender → Head → ℕ
 mapAfter s h = marked (mapBefore s h) (h .cut .cbn)
 
+-- 02, Item 1: "Keep the number in the open message's record." A message that opens has none yet.
+abbrev pub keptBefore : Sender → Head → ℕ
+keptBefore s h = cond (rejoins s h) (s .message .held) 0
+
+-- "Every call keeps it equal to the number of ones in the map": one more with each new piece. In a record outside its
+-- limits it may stand at 255, the most that an octet holds, and stays there.
+abbrev pub oneMore : ℕ → ℕ
+oneMore k = cond (ltb k 255) (k + 1) k
+
+unfoldable pub keptAfter : Sender → Head → ℕ
+keptAfter s h = oneMore (keptBefore s h)
+
 -- "The message is delivered at the piece that fills the map, in whatever order pieces came"
 unfoldable pub fills : Sender → Head → Bool
 fills s h = isFull (mapAfter s h) (h .cut .tbn)
@@ -91,22 +102,23 @@ lastBy v s h = cond (isUnchecked v) (s .last) (record { version = h .given .vers
 abbrev pub closed : Sender → Last → Sender
 closed s l = withLast (withMessage s false noMessage) l
 
--- "kept with V_SEQ, SEQ, TCD, n, TBN, u and a 64-bit map of pieces held"; "A fragment that is stored sets the message's
--- stamp to the clock."
-abbrev pub messageOf : ℕ → ℕ → Head → Message
-messageOf clock map h = record {
+-- "kept with V_SEQ, SEQ, TCD, n, TBN, u and a 64-bit map of pieces held", and their number; "A fragment that is stored
+-- sets the message's stamp to the clock."
+abbrev pub messageOf : (clock map held : ℕ) → Head → Message
+messageOf clock map held h = record {
   version = h .given .version;
   number = h .given .number;
   tcd = h .given .tcd;
   n = messageLength (h .cut);
   tbn = h .cut .tbn;
+  held = held;
   u = unit (h .cut);
   map = map;
   stamp = clock;
 }
 
 abbrev pub messageAfter : ℕ → Sender → Head → Message
-messageAfter clock s h = messageOf clock (mapAfter s h) h
+messageAfter clock s h = messageOf clock (mapAfter s h) (keptAfter s h) h
 
 abbrev pub opened : Sender → Message → Sender
 opened s m = withMessage s true m
@@ -116,9 +128,10 @@ unfoldable pub senderAfter : ℕ → ℕ → Sender → Head → Sender
 senderAfter n1 clock s h =
     cond (fills s h) (closed s (lastBy (verdictOf n1 s h) s h)) (opened s (messageAfter clock s h))
 
--- "How many pieces are held is the count of ones in the map."
+-- "pieces then held for the PDU's sender": the number kept. "How many pieces are held is the count of ones in the map":
+-- so it is in every record within its limits (`kept-ones`).
 unfoldable pub heldAfter : Sender → Head → ℕ
-heldAfter s h = cond (fills s h) 0 (ones (mapAfter s h))
+heldAfter s h = cond (fills s h) 0 (keptAfter s h)
 
 -- What an admitted PDU does.
 unfoldable pub admitted : ℕ → ℕ → Sender → Head → Admission

@@ -1,12 +1,13 @@
 -- Laws of admission: what is known where no number of 15 to 20 applies. Assumes nothing.
 use mathlib.Core.Path.{_≡_, refl, sym, _∙_}
+use mathlib.Core.Logic.{_≢_, ⊎-elim}
 use mathlib.Core.Bool.{Bool, true, false, not, cond, _&&_, _||_}
-use Prim.Native.Nat.{ℕ, suc, _+_, _-_}
+use Prim.Native.Nat.{ℕ, suc, _+_, _-_, _^_, _≤_, _<_}
 use native.Mathlib.Omega.{arith}
-use lib.Count.{ones}
+use lib.Count.{ones, ones-le}
 use lib.Dec.{eqb}
-use borrow.Author.Tests.{eq-eqb, ne-eqb, eqb-true, not-false}
-use Rattle.octets.specs.Split.{cond-case, never-both, and-left}
+use borrow.Author.Tests.{eq-eqb, ne-eqb, eqb-true, lt-ltb, le-ltb, not-false}
+use Rattle.octets.specs.Split.{lt-or-le, cond-case, never-both, and-left}
 use Rattle.ring.specs.Check.{isRepeat}
 use Rattle.ring.specs.Ring.{OnRing, newer}
 use Rattle.ring.specs.RingLaws.{Order, one-order}
@@ -20,7 +21,7 @@ use Rattle.state.specs.declared.Sender.{Sender}
 use Rattle.answers.specs.declared.Admission.{Admission}
 use Rattle.answers.specs.declared.Dropped.{Dropped}
 use Rattle.answers.specs.declared.Outcome.{Outcome}
-use Rattle.rules.specs.calls.Admit.{sameVersion, rejoins, sameCut, verdictOf, senderRows, mapBefore, mapAfter, fills, noneDropped, droppedBy, admitted, notAdmitted, admission}
+use Rattle.rules.specs.calls.Admit.{sameVersion, rejoins, sameCut, verdictOf, senderRows, mapBefore, mapAfter, oneMore, keptAfter, fills, noneDropped, droppedBy, admitted, notAdmitted, admission}
 use Rattle.answers.specs.Told.{refusedNumber}
 use Rattle.rules.specs.calls.First.{first}
 use Rattle.rules.specs.calls.FirstLaws.{first-none}
@@ -79,6 +80,18 @@ map-one-more n1 s h a =
     rw (map-adds n1 s h a) (cond-case (λ (m : ℕ). ones (m + pieceBit c) ≡ suc (ones m)) (rejoins s h) (s .message .map) 0
     (λ r. ones-set (c - 1) (s .message .map) (holds-not (s .message .map) c (a .new-piece r)))
     (λ _. ones-set (c - 1) 0 (bit-zero (c - 1))))
+
+-- A number kept that is wrong is not set right by a piece more: a map of 64 pieces has too few ones for 255.
+pub kept-wrong : (n1 : ℕ) (s : Sender) (h : Head) → Admitted n1 s h → rejoins s h ≡ true → s .message .map < 2 ^ 64
+    → s .message .held ≢ ones (s .message .map) → keptAfter s h ≢ ones (mapAfter s h)
+unfolding keptAfter
+kept-wrong n1 s h a r short wrong right =
+    let k = s .message .held in
+    let one-more : oneMore k ≡ suc (ones (s .message .map)) = rw r at (right ∙ map-one-more n1 s h a) in
+    ⊎-elim
+    (λ (room : k < 255). wrong (omega (arith, rw (lt-ltb k 255 room) at one-more)))
+    (λ (most : 255 ≤ k). omega (arith, rw (le-ltb k 255 most) at one-more, most, ones-le 64 (s .message .map) short))
+    (lt-or-le k 255)
 
 pub fills-full : (s : Sender) (h : Head) → fills s h ≡ eqb (mapAfter s h) (fullMap (h .cut .tbn))
 unfolding fills

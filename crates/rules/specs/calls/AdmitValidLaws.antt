@@ -1,25 +1,27 @@
 -- What an admitted PDU makes of its sender's record is within its limits. Assumes nothing.
 use mathlib.Core.Path.{_≡_, refl, sym, _∙_}
-use mathlib.Core.Logic.{_≢_}
+use mathlib.Core.Logic.{_≢_, ⊎-elim}
 use mathlib.Core.Bool.{true, false, _&&_, false≢true}
 use Prim.Native.Nat.{ℕ, _+_, _-_, _^_, _<_}
+use native.Mathlib.Numerals.{add-one}
 use native.Mathlib.Omega.{arith}
+use lib.Count.{ones, ones-le}
 use lib.Dec.{eqb, leb, ltb}
 use lib.Pow.{pow-pos}
-use borrow.Author.Tests.{eqb-true, eqb-false}
-use Rattle.octets.specs.Split.{cond-case, both, and-left, and-right, or-right}
+use borrow.Author.Tests.{eqb-true, eqb-false, lt-ltb}
+use Rattle.octets.specs.Split.{true-or-false, cond-case, both, and-left, and-right, or-right}
 use Rattle.ring.specs.Check.{isUnchecked}
 use Rattle.ring.specs.Ring.{M, isNumber}
 use Rattle.header.specs.declared.Head.{Head}
 use Rattle.header.specs.Codes.{isUser}
 use Rattle.cut.specs.Possible.{unit, messageLength}
-use Rattle.cut.specs.PossibleLaws.{possible-facts, possible-several, several-of}
+use Rattle.cut.specs.PossibleLaws.{possible-facts, possible-several, several-facts, several-most, several-of}
 use Rattle.map.specs.Map.{fullMap, pieceBit}
 use Rattle.map.specs.MapLaws.{bit-zero, set-below, holds-not}
 use Rattle.state.specs.declared.Last.{Last}
 use Rattle.state.specs.declared.Sender.{Sender}
-use Rattle.rules.specs.calls.Admit.{rejoins, sameCut, verdictOf, mapAfter, fills, lastBy, closed, messageAfter, opened, senderAfter}
-use Rattle.rules.specs.calls.AdmitLaws.{Admitted, rejoins-open, map-adds, fills-full}
+use Rattle.rules.specs.calls.Admit.{rejoins, sameCut, verdictOf, mapAfter, keptAfter, fills, lastBy, closed, messageAfter, opened, senderAfter}
+use Rattle.rules.specs.calls.AdmitLaws.{Admitted, rejoins-open, map-adds, map-one-more, fills-full}
 use Rattle.state.specs.Limits.{lastWithin}
 use Rattle.state.specs.WithinLaws.{MessageWithin, message-facts, message-of, SenderWithin, Stays}
 
@@ -55,6 +57,19 @@ module _ (n1 clock : ℕ) (s : Sender) (h : Head) (a : Admitted n1 s h) where
       set-below t (c - 1) (s .message .map) (omega arith) (omega arith) (holds-not (s .message .map) c (a .new-piece e)))
       (λ _. set-below t (c - 1) 0 (omega arith) (pow-pos t) (bit-zero (c - 1))))
 
+  -- "How many pieces are held is the count of ones in the map", and as many are kept.
+  pub kept-ones : SenderWithin clock s → keptAfter s h ≡ ones (mapAfter s h)
+  unfolding keptAfter
+  kept-ones f = ⊎-elim
+      (λ (r : rejoins s h ≡ true).
+      let m = s .message in
+      let o = message-facts clock m (f .message (rejoins-open s h r)) in
+      let few = ones-le (m .tbn) (m .map) (omega (arith, o .not-full)) in
+      let most = several-most (m .n) (m .tbn) (m .u) (several-facts (m .n) (m .tbn) (m .u) (o .cut)) in
+      rw (map-one-more n1 s h a, r, o .held, lt-ltb (ones (m .map)) 255 (omega (arith, few, most)), add-one (ones (m .map))))
+      (λ (r : rejoins s h ≡ false). rw (map-one-more n1 s h a, r) (unfold ones in refl))
+      (true-or-false (rejoins s h))
+
   module _ (number : isNumber (h .given .number .0) ≡ true) (code : isUser (h .given .tcd) ≡ true) where
     -- One piece always fills the map, so a message that stays open has several.
     open-within : SenderWithin clock s → fills s h ≡ false → MessageWithin clock (messageAfter clock s h)
@@ -70,6 +85,7 @@ module _ (n1 clock : ℕ) (s : Sender) (h : Head) (a : Admitted n1 s h) where
           cut = several-of (messageLength (h .cut)) t (unit (h .cut)) (possible-several (h .cut) (a .cut-possible) several);
           not-empty = map-some;
           not-full = omega (arith, map-most f);
+          held = kept-ones f;
           stamp = omega arith;
         }
 

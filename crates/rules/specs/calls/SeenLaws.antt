@@ -7,7 +7,7 @@ use lib.Dec.{eqb}
 use Rattle.header.specs.declared.Head.{Head}
 use Rattle.signal.specs.declared.Body.{Body}
 use Rattle.state.specs.declared.Sender.{Sender}
-use Rattle.rules.specs.calls.Admit.{rejoins, senderRows, mapAfter, fills, droppedBy, heldAfter, senderAfter, admitted}
+use Rattle.rules.specs.calls.Admit.{rejoins, senderRows, mapAfter, keptAfter, fills, droppedBy, heldAfter, senderAfter, admitted}
 use Rattle.rules.specs.calls.Alike.{seen}
 use Rattle.rules.specs.calls.Alive.{heardBy}
 use Rattle.rules.specs.calls.Clock.{drops, dies, aged}
@@ -117,9 +117,13 @@ module _ (h : Head) where
   unfolding fills
   looks-fills s = rw (looks-map s)
 
+  pub looks-kept : LooksAtSeen (λ s. keptAfter s h)
+  unfolding seen keptAfter rejoins
+  looks-kept = by-cases _ (λ s. (refl, refl, refl, refl))
+
   pub looks-held : LooksAtSeen (λ s. heldAfter s h)
   unfolding heldAfter
-  looks-held s = rw (looks-fills s, looks-map s)
+  looks-held s = rw (looks-fills s, looks-kept s)
 
   pub looks-outcome : (n1 clock : ℕ) → LooksAtSeen (λ s. admitted n1 clock s h .outcome)
   unfolding seen admitted
@@ -127,4 +131,4 @@ module _ (h : Head) where
 
   pub changes-after : (n1 clock : ℕ) → ChangesSeen (λ s. senderAfter n1 clock s h)
   unfolding seen senderAfter
-  changes-after n1 clock s = cond-ap seen (fills s h) _ _ ∙ rw (looks-fills s, looks-map s)
+  changes-after n1 clock s = cond-ap seen (fills s h) _ _ ∙ rw (looks-fills s, looks-map s, looks-kept s)

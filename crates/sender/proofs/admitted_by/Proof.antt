@@ -1,8 +1,6 @@
 -- Each part is that of the definition. Assumes nothing.
 use mathlib.Core.Path.{_≡_, sym, _∙_}
 use mathlib.Core.Bool.{true, false}
-use native.Mathlib.Omega.{arith}
-use lib.Count.{ones-le}
 use Rattle.rules.specs.calls.Admit.{admitted, fills, heldAfter, senderAfter}
 use borrow.Author.Needs.{needs}
 use Rattle.sender.proofs.admitted_by.Statement.{statement}
@@ -32,14 +30,11 @@ returns c =
     let f : fills (a .s) (a .h) ≡ true = unfold fills in (rw (map .map-after .ensures) at (sym (full .before .is-full .ensures) ∙ full .if1 .taken)) in
     simp (f, c .delivered .ensures, c .before .verdict .ensures, full .before .before .dropped-by .ensures)
 
+kept-after-requires : tie.Need-kept-after-requires
+kept-after-requires c κs = search needs
+
 opened-requires : tie.Need-opened-requires
 opened-requires c κs = search needs
-
-held-requires : tie.Need-held-requires
-held-requires c κs = search needs
-
-cast-t15 : tie.Need-cast-t15
-cast-t15 c = omega (arith, c .held .ensures, ones-le 64 (c .before .before .before .before .before .map-after .result) (omega arith))
 
 returns-2 : tie.Need-returns-2
 unfolding admitted heldAfter senderAfter
@@ -48,7 +43,7 @@ returns-2 c =
     let map = partial .before .before .before in
     let a = map .before .before .args in
     let f : fills (a .s) (a .h) ≡ false = unfold fills in (rw (map .map-after .ensures) at (sym (partial .before .is-full .ensures) ∙ partial .if1 .left)) in
-    simp (f, c .held .ensures, c .before .opened .ensures, partial .before .before .dropped-by .ensures, map .map-after .ensures)
+    simp (f, c .before .kept-after .ensures, c .opened .ensures, partial .before .before .dropped-by .ensures, map .map-after .ensures)
 
 pub admitted-by-spec : {M : Type 1} → statement M
 admitted-by-spec =
@@ -60,7 +55,6 @@ admitted-by-spec =
     verdict-requires
     delivered-requires
     returns
+    kept-after-requires
     opened-requires
-    held-requires
-    cast-t15
     returns-2)

@@ -8,18 +8,18 @@ use Rattle.sender.proofs.message_of.Tie as tie
 message-length-requires : tie.Need-message-length-requires
 message-length-requires c κs = search needs
 
-cast-t9 : tie.Need-cast-t9
-cast-t9 c = let f = possible-facts _ (c .before .before .before .before .before .pre) in omega (arith, c .message-length .ensures)
+cast-t10 : tie.Need-cast-t10
+cast-t10 c = let f = possible-facts _ (c .before .before .before .before .before .pre) in omega (arith, c .message-length .ensures)
 
 unit-requires : tie.Need-unit-requires
 unit-requires c κs = search needs
 
-cast-t11 : tie.Need-cast-t11
-cast-t11 c = omega (arith, c .unit .ensures, possible-unit _ (c .before .before .before .before .before .before .pre))
+cast-t12 : tie.Need-cast-t12
+cast-t12 c = omega (arith, c .unit .ensures, possible-unit _ (c .before .before .before .before .before .before .pre))
 
 returns : tie.Need-returns
 returns c = rw (c .unit .ensures, c .before .message-length .ensures)
 
 pub message-of-spec : {M : Type 1} → statement M
 message-of-spec =
-    tie.close (tie.spec message-length-requires cast-t9 unit-requires cast-t11 returns)
+    tie.close (tie.spec message-length-requires cast-t10 unit-requires cast-t12 returns)

@@ -3,6 +3,7 @@ use Prim.Native.Nat.{ℕ, zero, suc, _/_, _%_, _≤_}
 use mathlib.Core.Path.{_≡_}
 use mathlib.Core.Bool.{Bool, true, not, cond, _&&_, _||_}
 use mathlib.Core.List.{List}
+use lib.Count.{ones}
 use lib.Dec.{eqb, leb, ltb}
 use lib.ListN.{length}
 use Rattle.header.specs.Codes.{isUser}
@@ -34,11 +35,11 @@ aliveWithin clock r = whereSet (r .alive) (ltb (r .timeout) half && leb (r .hear
 abbrev pub openWithin : ℕ → Record → Bool
 openWithin clock r = whereSet (r .«open») (messageWithin clock (messageIn r))
 
--- Of an open message, by its words: its code, its cut and its map.
+-- Of an open message, by its words: its code, its cut and its map, and how many pieces are held.
 unfoldable pub cutWithin : ℕ → ℕ → Bool
 cutWithin cut map =
-    isUser (cut / 281474976710656) && (severalPossible (cut / half % 65536) (cut % 65536) (cut / 65536 % 65536)
-    && not (isEmpty map || isFull map (cut % 65536) || markedPast map (cut % 65536)))
+    isUser (cut / 281474976710656) && (severalPossible (cut / half % 65536) (cut % 256) (cut / 65536 % 65536)
+    && (not (isEmpty map || isFull map (cut % 256) || markedPast map (cut % 256)) && eqb (cut / 256 % 256) (ones map)))
 
 unfoldable pub recordWithin : ℕ → Record → Bool
 recordWithin clock r = fits r && senderWithin clock (senderOf r)

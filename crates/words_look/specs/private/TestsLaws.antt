@@ -7,14 +7,14 @@ use mathlib.Core.List.{List}
 use native.Mathlib.Nat.{mod-eq-of-lt}
 use native.Mathlib.Numerals.{add-one}
 use native.Mathlib.Omega.{arith}
+use lib.Count.{ones}
 use lib.Dec.{eqb, leb, ltb}
 use lib.ListN.{length, set, length-set, take, drop, replicate}
 use borrow.Author.Tests.{leb-true, le-leb, lt-leb, lt-ltb, le-ltb, eqb-true, eq-eqb, ne-eqb}
-use Rattle.octets.specs.Split.{lt-or-le, true-or-false, same-test, both, and-left, and-right, or-left, or-right, either}
+use Rattle.octets.specs.Split.{lt-or-le, same-test, both, and-left, and-right, or-left, or-right, either}
 use Rattle.ring.specs.Ring.{M, isNumber}
 use Rattle.header.specs.Codes.{isUser}
 use Rattle.cut.specs.Possible.{severalPossible}
-use Rattle.cut.specs.PossibleLaws.{several-facts, several-most}
 use Rattle.map.specs.Map.{isEmpty, isFull, markedPast}
 use Rattle.state.specs.Key.{keyOf, Narrow, newKey}
 use Rattle.state.specs.KeyLaws.{Seen, seen-none, seen-more, new-seen}
@@ -116,29 +116,8 @@ unfolding messageWithin cutWithin
 message-tests clock r =
     let m = messageIn r in
     let map = not (isEmpty (m .map) || isFull (m .map) (m .tbn) || markedPast (m .map) (m .tbn)) in
-    and-comm (isNumber (m .number .0) && isUser (m .tcd) && severalPossible (m .n) (m .tbn) (m .u) && map) (leb (m .stamp) clock) ∙ simp and-assoc
-
--- No message has as many pieces as an octet can't count,
-pub pieces-many : (cut map : ℕ) → 255 < cut % 65536 → cutWithin cut map ≡ false
-unfolding cutWithin
-pieces-many cut map h =
-    let n = cut / half % 65536 in
-    let t = cut % 65536 in
-    let u = cut / 65536 % 65536 in
-    let never : severalPossible n t u ≡ false = ⊎-elim
-    (λ (yes : severalPossible n t u ≡ true). absurd (omega (arith, several-most n t u (several-facts n t u yes))))
-    (λ (no : severalPossible n t u ≡ false). no)
-    (true-or-false (severalPossible n t u)) in
-    rw never (and-false (isUser (cut / 281474976710656)))
-
--- so an octet is enough for their number.
-pub cut-tests : (cut map : ℕ) → cut % 65536 ≤ 255
-    → cutWithin cut map ≡ isUser (cut / 281474976710656) && (severalPossible (cut / half % 65536) (cut % 65536 % 256) (cut / 65536 % 65536)
-    && not (isEmpty map || isFull map (cut % 65536 % 256) || markedPast map (cut % 65536 % 256)))
-unfolding cutWithin
-cut-tests cut map h =
-    let octet : cut % 65536 % 256 ≡ cut % 65536 = mod-eq-of-lt (omega arith) in
-    rw octet
+    let held = eqb (m .held) (ones (m .map)) in
+    and-comm (isNumber (m .number .0) && isUser (m .tcd) && severalPossible (m .n) (m .tbn) (m .u) && map && held) (leb (m .stamp) clock) ∙ simp and-assoc
 
 -- ---- all senders
 

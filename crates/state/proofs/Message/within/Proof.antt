@@ -25,16 +25,24 @@ several-requires c κs = search needs
 is-partial-requires : tie.Need-is-partial-requires
 is-partial-requires c κs = search needs
 
+cast-result : tie.Need-cast-result
+cast-result c = search needs
+
+held-requires : tie.Need-held-requires
+held-requires c κs = search needs
+
 returns : tie.Need-returns
 unfolding messageWithin
 returns c =
-    let code = c .before .before .before .before .before in
+    let partial = c .before .before .before in
+    let code = partial .before .before .before .before in
     simp (
       code .before .before .within .ensures,
       code .before .code-of .ensures,
       code .is-user .ensures,
-      c .before .before .several .ensures,
-      c .before .is-partial .ensures,
+      partial .before .several .ensures,
+      partial .is-partial .ensures,
+      c .before .held .ensures,
     )
 
 pub within-spec : {M : Type 1} → statement M
@@ -48,4 +56,6 @@ within-spec =
     cast-several-2
     several-requires
     is-partial-requires
+    cast-result
+    held-requires
     returns)

@@ -10,7 +10,7 @@ returns : tie.Need-returns
 returns c = simp (c .before .if1 .taken, c .within .ensures)
 
 returns-2 : tie.Need-returns-2
-returns-2 c = search needs
+returns-2 c = rw (c .if1 .left)
 
 pub message-within-spec : {M : Type 1} → statement M
 message-within-spec = tie.close (tie.spec within-requires returns returns-2)
