@@ -230,5 +230,8 @@ fn cut_within(cut: u64, map: u64) -> bool
     if !several(n, tbn, u) {
         return false;
     }
-    is_partial(map, tbn) & ((cut / 256 % 256) as u32 == held(map))
+    if !is_partial(map, tbn) {
+        return false;
+    }
+    (cut / 256 % 256) as u32 == held(map)
 }

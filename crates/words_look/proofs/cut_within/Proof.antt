@@ -52,12 +52,6 @@ returns-2 c =
 is-partial-requires : tie.Need-is-partial-requires
 is-partial-requires c κs = search needs
 
-cast-result : tie.Need-cast-result
-cast-result c = search needs
-
-held-requires : tie.Need-held-requires
-held-requires c κs = search needs
-
 returns-3 : tie.Need-returns-3
 unfolding cutWithin
 returns-3 c =
@@ -65,7 +59,22 @@ returns-3 c =
     let user = partial .before .before .before .before .is-user in
     let is-user = sym (user .ensures ∙ ap isUserCode (partial .before .before .before .before .before .code-of .ensures)) in
     let several = partial .before .before .several in
-    rw (is-user, not-false (user .result) (partial .before .before .before .if1 .left), sym (several .ensures), not-false (several .result) (partial .before .if2 .left), sym (partial .is-partial .ensures), c .held .ensures)
+    rw (is-user, not-false (user .result) (partial .before .before .before .if1 .left), sym (several .ensures), not-false (several .result) (partial .before .if2 .left), sym (partial .is-partial .ensures), not-true (partial .is-partial .result) (c .if3 .taken))
+
+cast-result : tie.Need-cast-result
+cast-result c = search needs
+
+held-requires : tie.Need-held-requires
+held-requires c κs = search needs
+
+returns-4 : tie.Need-returns-4
+unfolding cutWithin
+returns-4 c =
+    let partial = c .before .before in
+    let user = partial .before .before .before .before .is-user in
+    let is-user = sym (user .ensures ∙ ap isUserCode (partial .before .before .before .before .before .code-of .ensures)) in
+    let several = partial .before .before .several in
+    rw (is-user, not-false (user .result) (partial .before .before .before .if1 .left), sym (several .ensures), not-false (several .result) (partial .before .if2 .left), sym (partial .is-partial .ensures), not-false (partial .is-partial .result) (c .before .if3 .left), c .held .ensures)
 
 pub cut-within-spec : {M : Type 1} → statement M
 cut-within-spec =
@@ -83,6 +92,7 @@ cut-within-spec =
     several-requires
     returns-2
     is-partial-requires
+    returns-3
     cast-result
     held-requires
-    returns-3)
+    returns-4)
