@@ -15,17 +15,34 @@ static void begin(uint64_t *state, uint8_t mode, uint16_t n1, uint32_t t, uint8_
     adp_setup(state, ADP_STATE_WORDS, settings);
 }
 
-uint64_t board_night(uint8_t mode, uint16_t n1, uint32_t t, uint8_t senders, const uint8_t *packets, size_t octets,
-                     const uint16_t *sizes, size_t count, uint8_t *storage, size_t room) {
-    uint64_t state[ADP_STATE_WORDS], sum = 0;
+/* Packet after packet. */
+static uint64_t run(uint64_t *state, const uint8_t *packets, size_t octets, const uint16_t *sizes, size_t count,
+                    uint8_t *storage, size_t room) {
+    uint64_t sum = 0;
     size_t at = 0;
-    begin(state, mode, n1, t, senders);
     for (size_t i = 0; i < count; i++) {
         size_t size = sizes[i] < octets - at ? sizes[i] : octets - at;
         struct adp_answer a = adp_message(state, ADP_STATE_WORDS, storage, room, packets + at, size);
         sum += (a.number > ADP_DELIVERED ? a.number : a.verdict) + a.held * 256ull + a.length;
         at += size;
     }
+    return sum;
+}
+
+uint64_t board_night(uint8_t mode, uint16_t n1, uint32_t t, uint8_t senders, const uint8_t *packets, size_t octets,
+                     const uint16_t *sizes, size_t count, uint8_t *storage, size_t room) {
+    uint64_t state[ADP_STATE_WORDS];
+    begin(state, mode, n1, t, senders);
+    return run(state, packets, octets, sizes, count, storage, room);
+}
+
+uint64_t board_pages(uint8_t mode, uint16_t n1, uint32_t t, uint8_t senders, const uint8_t *packets, size_t octets,
+                     const uint16_t *sizes, size_t count, uint8_t *storage, size_t room, const uint8_t *places,
+                     size_t asked) {
+    uint64_t state[ADP_STATE_WORDS], sum = 0;
+    begin(state, mode, n1, t, senders);
+    run(state, packets, octets, sizes, count, storage, room);
+    for (size_t i = 0; i < asked; i++) sum += adp_held(state, ADP_STATE_WORDS, places[i]);
     return sum;
 }
 

@@ -17,11 +17,13 @@ static uint16_t *sizes;
 static size_t octets, count;
 static uint8_t content[AREA], pdus[65][LONGEST];
 static uint8_t storages[SIDES][PLACES * AREA];
+/* the places that the page asks, one behind the other */
+static uint8_t places[MOST_ROUNDS * PLACES];
 
 struct night {
     const char *name;
-    enum { JOIN, REFUSED, MIXED, CUT } kind;
-    /* of a join and a cutting: n octets in pieces of u */
+    enum { JOIN, REFUSED, MIXED, PAGE, CUT } kind;
+    /* of a join, a page and a cutting: n octets in pieces of u */
     uint16_t n, u;
     uint8_t senders;
     bool reversed;
@@ -54,6 +56,7 @@ static const struct night nights[] = {
     {"refused with 19, 1 sender", REFUSED, 2792, 1396, 1, false, 19},
     {"refused with 20, 1 sender", REFUSED, 2792, 1396, 1, false, 20},
     {"a mixture, 4 senders", MIXED, 2792, 1396, 4, false, 0},
+    {"the page, 16 senders", PAGE, 16384, 1396, 16, false, 0},
     {"cut into 12 pieces", CUT, 16384, 1396, 1, false, 0},
     {"cut into 64 pieces", CUT, 16384, 256, 1, false, 0},
     {"cut into 1 piece of 1396", CUT, 1396, 1396, 1, false, 0},
@@ -67,6 +70,17 @@ static void fail(const char *what, const char *which) {
 }
 
 static unsigned pieces(const struct night *k) { return k->n <= k->u ? 1 : (k->n - 1u) / k->u + 1u; }
+
+/* How many pieces of the sender at a place are held when the page asks: not all, and not as many as of the next. */
+static unsigned held(const struct night *k, unsigned place) {
+    return place < k->senders ? 1 + place % (pieces(k) - 1) : 0;
+}
+
+static uint64_t all_held(const struct night *k) {
+    uint64_t all = 0;
+    for (unsigned place = 0; place < PLACES; place++) all += held(k, place);
+    return all;
+}
 
 /* ---- packets */
 
@@ -108,6 +122,13 @@ static void refused_round(const struct night *k, unsigned round) {
     if (k->number == 19) packet[TCD + 1] = 2;
 }
 
+/* The pieces that are held when the page asks, and what it asks: all places, in each round. */
+static void page_rounds(const struct night *k, unsigned rounds) {
+    for (unsigned node = 1; node <= k->senders; node++)
+        for (unsigned c = 1; c <= held(k, node - 1); c++) put(k, node, 1, c);
+    for (unsigned i = 0; i < rounds * PLACES; i++) places[i] = (uint8_t)(i % PLACES);
+}
+
 /* A number below `below`, the same in every run. */
 static unsigned chance(unsigned below) {
     static uint32_t seed = 1;
@@ -137,6 +158,7 @@ static void prepare(const struct night *k, unsigned rounds) {
     for (size_t i = 0; i < sizeof content; i++) content[i] = (uint8_t)(i * 7 + i / 251);
     if (k->kind == CUT) return;
     cut_all(k);
+    if (k->kind == PAGE) page_rounds(k, rounds);
     for (unsigned round = 0; round < rounds; round++) {
         if (k->kind == JOIN) join_round(k, round);
         if (k->kind == REFUSED) refused_round(k, round);
@@ -150,16 +172,23 @@ static void prepare(const struct night *k, unsigned rounds) {
 static const struct side {
     const char *name;
     night_call *night;
+    pages_call *pages;
     cuts_call *cuts;
 } sides[SIDES] = {
-    {"value", adp_night, adp_cuts},
-    {"board", board_night, board_cuts},
-    {"twin", twin_night, twin_cuts},
+    {"value", adp_night, adp_pages, adp_cuts},
+    {"board", board_night, board_pages, board_cuts},
+    {"twin", twin_night, twin_pages, twin_cuts},
 };
 
 static uint64_t run_night(const struct night *k, night_call *call, uint8_t *storage) {
     size_t room = (size_t)k->senders * AREA - (k->number == 11);
     return call(MODE_ONLINE, N1, T, k->senders, packets, octets, sizes, count, storage, room);
+}
+
+static uint64_t run_pages(const struct night *k, unsigned side, const uint8_t *asked, size_t many) {
+    size_t room = (size_t)k->senders * AREA;
+    return sides[side].pages(MODE_ONLINE, N1, T, k->senders, packets, octets, sizes, count, storages[side], room, asked,
+                             many);
 }
 
 static uint64_t run_cuts(const struct night *k, cuts_call *call, uint8_t *buffer, unsigned rounds) {
@@ -171,6 +200,7 @@ static uint64_t run_cuts(const struct night *k, cuts_call *call, uint8_t *buffer
 
 static uint64_t run(const struct night *k, unsigned side, unsigned rounds) {
     if (k->kind == CUT) return run_cuts(k, sides[side].cuts, storages[side], rounds);
+    if (k->kind == PAGE) return run_pages(k, side, places, (size_t)rounds * PLACES);
     return run_night(k, sides[side].night, storages[side]);
 }
 
@@ -193,6 +223,15 @@ static void compare_cuts(const struct night *k) {
     }
 }
 
+/* Each place by itself, and one that no sender has: in a sum one might stand for another. */
+static void compare_pages(const struct night *k) {
+    for (unsigned side = 0; side < SIDES; side++)
+        for (unsigned place = 0; place <= PLACES; place++) {
+            const uint8_t asked = (uint8_t)place;
+            if (run_pages(k, side, &asked, 1) != held(k, place)) fail("a place holds not what it was sent", k->name);
+        }
+}
+
 /* Whether each sender's area has the message that was sent. */
 static bool joined_right(const struct night *k) {
     for (unsigned i = 0; i < k->senders; i++)
@@ -207,6 +246,7 @@ static void expect(const struct night *k, uint64_t sum, unsigned rounds) {
     if (k->kind == JOIN && sum != k->senders * (rounds * (join + k->n) + 1 + (rounds - 1) * 2ull))
         fail("not every message was joined", k->name);
     if (k->kind == JOIN && t > 1 && !joined_right(k)) fail("a message was joined wrongly", k->name);
+    if (k->kind == PAGE && sum != rounds * all_held(k)) fail("not every place was asked", k->name);
     if (k->kind == REFUSED && k->number < 17 && sum != (uint64_t)k->number * rounds)
         fail("not every packet was refused with its number", k->name);
     if (k->kind == REFUSED && k->number == 17 && sum != 17ull * rounds + 1 + k->n)
@@ -221,7 +261,16 @@ static void compare(const struct night *k, unsigned rounds) {
         if (run(k, side, rounds) != first) fail("the sides answer differently", k->name);
     if (!wrote_alike()) fail("the sides write differently", k->name);
     expect(k, first, rounds);
+    if (k->kind == PAGE) compare_pages(k);
     if (k->kind == CUT) compare_cuts(k);
+}
+
+/* Runs a side with the stack at a fixed place of 4,096 octets. Where it stands in main, the lengths of the environment
+ * and of the arguments decide, and a state that is copied takes more instructions at some places than at others. */
+static uint64_t run_counted(const struct night *k, unsigned side, unsigned rounds) {
+    volatile uint8_t *passed = __builtin_alloca((uintptr_t)__builtin_frame_address(0) % 4096 + 1);
+    passed[0] = 0;
+    return run(k, side, rounds);
 }
 
 /* Has the side of this name run the night, all of them, or none. */
@@ -235,7 +284,7 @@ static void run_named(const struct night *k, const char *name, unsigned rounds) 
     }
     for (unsigned side = 0; side < SIDES; side++)
         if (strcmp(name, sides[side].name) == 0) {
-            sum = run(k, side, rounds);
+            sum = run_counted(k, side, rounds);
             (void)sum;
             return;
         }
@@ -255,6 +304,6 @@ int main(int argc, char **argv) {
     const struct night *k = &nights[which];
     prepare(k, rounds);
     run_named(k, argv[2], rounds);
-    printf("%zu\n", k->kind == CUT ? (size_t)pieces(k) * rounds : count);
+    printf("%zu\n", k->kind == CUT ? (size_t)pieces(k) * rounds : k->kind == PAGE ? rounds : count);
     return 0;
 }

@@ -18,7 +18,7 @@ struct message {
     uint32_t version, number;
     uint64_t map, stamp;
     uint16_t tcd, n, u;
-    uint8_t tbn;
+    uint8_t tbn, held;
 };
 
 struct sender {
@@ -102,7 +102,7 @@ static inline bool several(uint32_t n, uint8_t t, uint32_t u) { return is_unit(u
 
 static inline bool message_within(const struct message *m, uint64_t clock) {
     return is_number(m->number) && is_user(m->tcd) && m->tbn > 1 && m->n <= AREA && several(m->n, m->tbn, m->u) && 0 < m->map &&
-           (64 < m->tbn || m->map < full(m->tbn)) && m->stamp <= clock;
+           (64 < m->tbn || m->map < full(m->tbn)) && m->held == __builtin_popcountll(m->map) && m->stamp <= clock;
 }
 
 static inline bool sender_within(const struct sender *s, uint64_t clock) {
@@ -205,17 +205,18 @@ static inline void admit(const struct receiver *r, struct sender *s, uint8_t *ar
     uint32_t version = read4(packet + V_SEQ), number = read4(packet + SEQ);
     bool rejoins = s->open && m->version == version && m->number == number;
     uint64_t map = (rejoins ? m->map : 0) | 1ull << (c->cbn - 1);
+    uint8_t held = (uint8_t)((rejoins ? m->held : 0) + 1);
     if (s->open && !rejoins) {
         a->dropped_version = m->version;
         a->dropped_number = m->number;
     }
     if (c->tbn != 1) memcpy(area + (c->cbn - 1u) * c->u, packet + HEADER, c->p);
     if (map != full(c->tbn)) {
-        *m = (struct message){version, number, map, r->clock, read2(packet + TCD), (uint16_t)c->n, (uint16_t)c->u, c->tbn};
+        *m = (struct message){version, number, map, r->clock, read2(packet + TCD), (uint16_t)c->n, (uint16_t)c->u, c->tbn, held};
         s->open = true;
         a->number = 0;
         a->verdict = 0;
-        a->held = (uint8_t)__builtin_popcountll(map);
+        a->held = held;
         return;
     }
     if (a->verdict != UNCHECKED) {
@@ -262,8 +263,15 @@ static void begin(struct receiver *r, uint8_t mode, uint16_t n1, uint32_t t, uin
     }
 }
 
-uint64_t twin_night(uint8_t mode, uint16_t n1, uint32_t t, uint8_t senders, const uint8_t *packets, size_t octets, const uint16_t *sizes,
-                    size_t count, uint8_t *storage, size_t room) {
+/* How many pieces of the sender at a place are held: the number kept. */
+static inline uint8_t held(const struct receiver *r, uint8_t place) {
+    return place < r->count && r->senders[place].open ? r->senders[place].message.held : 0;
+}
+
+/* Packet after packet. One function for both calls below: called from two places, `message` would not be inlined. */
+__attribute__((noinline, noclone)) static uint64_t night(uint8_t mode, uint16_t n1, uint32_t t, uint8_t senders, const uint8_t *packets,
+                                                         size_t octets, const uint16_t *sizes, size_t count, uint8_t *storage, size_t room,
+                                                         struct receiver *left) {
     struct receiver r;
     uint64_t sum = 0;
     size_t at = 0;
@@ -274,6 +282,22 @@ uint64_t twin_night(uint8_t mode, uint16_t n1, uint32_t t, uint8_t senders, cons
         sum += (a.number > 1 ? a.number : a.verdict) + a.held * 256ull + a.length;
         at += size;
     }
+    *left = r;
+    return sum;
+}
+
+uint64_t twin_night(uint8_t mode, uint16_t n1, uint32_t t, uint8_t senders, const uint8_t *packets, size_t octets, const uint16_t *sizes,
+                    size_t count, uint8_t *storage, size_t room) {
+    struct receiver r;
+    return night(mode, n1, t, senders, packets, octets, sizes, count, storage, room, &r);
+}
+
+uint64_t twin_pages(uint8_t mode, uint16_t n1, uint32_t t, uint8_t senders, const uint8_t *packets, size_t octets, const uint16_t *sizes,
+                    size_t count, uint8_t *storage, size_t room, const uint8_t *places, size_t asked) {
+    struct receiver r;
+    uint64_t sum = 0;
+    night(mode, n1, t, senders, packets, octets, sizes, count, storage, room, &r);
+    for (size_t i = 0; i < asked; i++) sum += held(&r, places[i]);
     return sum;
 }
 

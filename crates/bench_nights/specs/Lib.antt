@@ -1,3 +1,4 @@
 pub mod Night
 pub mod NightLaws
 pub mod Cuts
+pub mod Pages

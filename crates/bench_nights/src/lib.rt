@@ -1,5 +1,6 @@
 // Whole nights in one call, for the bench: a receiver is set up and given the packets that lie one behind the other in
-// a lent slice, and a message is cut piece by piece. A program in C lends the octets, and measures.
+// a lent slice, behind them the maintenance page asks, and a message is cut piece by piece. A program in C lends the
+// octets, and measures.
 //
 // What is answered is one number made of all answers, so that none can be left out and two programs are quickly
 // compared.
@@ -8,8 +9,12 @@ ghost use Rattle.state.specs.State.{sendersMost};
 ghost use Rattle.rules.specs.pasts.Past.{after};
 ghost use Rattle.bench_nights.specs.Night.{nodesTo, boardOf, begun, packetsBy, summed, nightSum};
 ghost use Rattle.bench_nights.specs.Cuts.{givenOf, cutSum, cutsSum, cutsBuffer};
+ghost use Rattle.bench_nights.specs.Pages.{heldSum};
+use answers::Answer;
+use answers::Dropped;
 use answers::Outcome;
 use answers::Setup;
+use answers::Where;
 use cut::cutter::Cutting;
 use cut::cutter::cutter;
 use header::Given;
@@ -39,22 +44,28 @@ pub extern "C" fn adp_night(
     ensures answer { λ r. ⌜ r ≡ nightSum 0 (begun (boardOf mode n1 t senders) (now (storage .entry))) (packetsBy (now (sizes .entry)) (now (packets .entry))) ⌝ }
     ensures stored { λ _. ⌜ now (storage .exit) ≡ after (begun (boardOf mode n1 t senders) (now (storage .entry))) (packetsBy (now (sizes .entry)) (now (packets .entry))) .storage ⌝ }
 {
-    let started = setup(board(mode, n1, t, senders));
-    let mut state = started.state;
-    let mut sum: u64 = 0;
-    let mut at: usize = 0;
-    let mut i: usize = 0;
-    while i < sizes.len() {
-        let packet = run(packets, at, sizes[i] as usize);
-        let a = message(state, storage, packet);
-        let outcome = a.outcome;
-        let lies = a.lies;
-        sum = with_answer(sum, outcome, a.held, part(lies, packet, storage).len());
-        state = a.state;
-        at += packet.len();
-        i += 1;
-    }
-    sum
+    let ended = night(mode, n1, t, senders, packets, sizes, storage);
+    ended.sum
+}
+
+// A night, and behind it the maintenance page, which asks of each of these places how many pieces are held.
+#[no_mangle]
+pub extern "C" fn adp_pages(
+    mode: u8,
+    n1: u16,
+    t: u32,
+    senders: u8,
+    packets: &[u8],
+    sizes: &[u16],
+    storage: &mut [u8],
+    places: &[u8],
+) -> u64
+    ensures answer { λ r. ⌜ r ≡ heldSum 0 (after (begun (boardOf mode n1 t senders) (now (storage .entry))) (packetsBy (now (sizes .entry)) (now (packets .entry))) .state) (now (places .entry)) ⌝ }
+    ensures stored { λ _. ⌜ now (storage .exit) ≡ after (begun (boardOf mode n1 t senders) (now (storage .entry))) (packetsBy (now (sizes .entry)) (now (packets .entry))) .storage ⌝ }
+{
+    let ended = night(mode, n1, t, senders, packets, sizes, storage);
+    let state = ended.state;
+    page(state, places)
 }
 
 // The pieces 1 to last of a message, each written into the same buffer.
@@ -108,6 +119,20 @@ fn board(mode: u8, n1: u16, t: u32, count: u8) -> Setup
     }
 }
 
+// A state that no packet has come to, in an answer: from there each call takes it, and there it leaves it. In a local of
+// its own the state would be copied once more for each packet.
+fn unasked(state: Receiver) -> Answer
+    ensures { λ r. ⌜ r .state ≡ state ⌝ }
+{
+    Answer {
+        outcome: Outcome::Stored,
+        held: 0,
+        dropped: Dropped::NONE,
+        lies: Where::Nothing,
+        state,
+    }
+}
+
 // The header values of the first sender's message with this number.
 fn given_of(number: u32) -> Given
     ensures { λ r. ⌜ r ≡ givenOf number ⌝ }
@@ -123,6 +148,48 @@ fn given_of(number: u32) -> Given
         mode: 0,
         pri: 0,
     }
+}
+
+// ---- packet after packet
+
+// What a night leaves beside the storage.
+struct Ended {
+    sum: u64,
+    state: Receiver,
+}
+
+// The packets, given to the message call one after the other.
+fn night(
+    mode: u8,
+    n1: u16,
+    t: u32,
+    senders: u8,
+    packets: &[u8],
+    sizes: &[u16],
+    storage: &mut [u8],
+) -> Ended
+    ensures answer { λ r. ⌜ r .sum ≡ nightSum 0 (begun (boardOf mode n1 t senders) (now (storage .entry))) (packetsBy (now (sizes .entry)) (now (packets .entry))) ⌝ }
+    ensures left { λ r. ⌜ r .state ≡ after (begun (boardOf mode n1 t senders) (now (storage .entry))) (packetsBy (now (sizes .entry)) (now (packets .entry))) .state ⌝ }
+    ensures stored { λ _. ⌜ now (storage .exit) ≡ after (begun (boardOf mode n1 t senders) (now (storage .entry))) (packetsBy (now (sizes .entry)) (now (packets .entry))) .storage ⌝ }
+{
+    let started = setup(board(mode, n1, t, senders));
+    let first = started.state;
+    let mut a = unasked(first);
+    let mut sum: u64 = 0;
+    let mut at: usize = 0;
+    let mut i: usize = 0;
+    while i < sizes.len() {
+        let packet = run(packets, at, sizes[i] as usize);
+        let state = a.state;
+        a = message(state, storage, packet);
+        let outcome = a.outcome;
+        let lies = a.lies;
+        sum = with_answer(sum, outcome, a.held, part(lies, packet, storage).len());
+        at += packet.len();
+        i += 1;
+    }
+    let state = a.state;
+    Ended { sum, state }
 }
 
 // ---- one packet
@@ -141,4 +208,20 @@ fn with_cut(sum: u64, cutting: Cutting) -> u64
 {
     let answer = cutting.number() as u64 + cutting.length() as u64;
     wrapping_add_u64(sum, answer)
+}
+
+// ---- the page
+
+// How many pieces are held at these places, in one sum.
+fn page(state: Receiver, places: &[u8]) -> u64
+    ensures { λ r. ⌜ r ≡ heldSum 0 state (now (places .entry)) ⌝ }
+{
+    let mut sum: u64 = 0;
+    let mut i: usize = 0;
+    while i < places.len() {
+        let held = state.held(places[i]);
+        sum = wrapping_add_u64(sum, held as u64);
+        i += 1;
+    }
+    sum
 }
