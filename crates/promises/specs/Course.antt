@@ -69,7 +69,7 @@ pub record QuestionMeets (w : World) (r : Missing) (v : World) : Type 0 where
   pub answered : r ≡ questionAnswer (w .state)
   pub stays : v ≡ w
 
--- 02, Item 1: the maintenance page asks how many pieces the sender at a place has. That stands in no past: it leaves
+-- 02, Item 1: the maintenance page asks how many pieces the sender at a place has. That stands in no past: it changes
 -- nothing.
 pub record HeldMeets (w : World) (place held : ℕ) : Type 0 where
   pub answered : held ≡ heldAt (w .state) place

@@ -6,7 +6,7 @@ use mathlib.Core.Bool.{Bool, true, false, not, _&&_, _||_, false≢true}
 use mathlib.Core.List.{List}
 use Prim.Native.Nat.{ℕ, zero, suc, _≤_, _<_}
 use native.Mathlib.Omega.{arith}
-use lib.Count.{ones}
+use lib.Count.{ones, ones-le}
 use lib.Dec.{eqb, leb, ltb}
 use lib.ListN.{length, getD, set, length-set, List·getD-eq-default}
 use lib.Seq.{getD-set-same, getD-set-other}
@@ -15,6 +15,7 @@ use Rattle.octets.specs.Split.{lt-or-le, eq-or-ne, both, and-left, and-right}
 use Rattle.ring.specs.Ring.{isNumber}
 use Rattle.header.specs.Codes.{isUser}
 use Rattle.cut.specs.Possible.{severalPossible}
+use Rattle.cut.specs.PossibleLaws.{several-facts, several-most}
 use Rattle.map.specs.Map.{fullMap, isEmpty, isFull, markedPast}
 use Rattle.map.specs.MapLaws.{partial-is}
 use Rattle.state.specs.declared.Address.{Address}
@@ -71,6 +72,12 @@ message-of clock m f =
     let high = ltb (m .map) (fullMap (m .tbn)) in
     let map = partial-is (m .map) (m .tbn) ∙ both low high (lt-ltb 0 (m .map) (f .not-empty)) (lt-ltb (m .map) (fullMap (m .tbn)) (f .not-full)) in
     rw (f .number, f .code, f .cut, map, eq-eqb (m .held) (ones (m .map)) (f .held), le-leb (m .stamp) clock (f .stamp))
+
+-- No map within its limits has more ones than there are pieces.
+pub held-most : (clock : ℕ) (m : Message) → MessageWithin clock m → m .held ≤ 64
+held-most clock m f =
+    let few = ones-le (m .tbn) (m .map) (omega (arith, f .not-full)) in
+    omega (arith, f .held, few, several-most (m .n) (m .tbn) (m .u) (several-facts (m .n) (m .tbn) (m .u) (f .cut)))
 
 -- Time going on keeps an open message within its limits.
 pub message-later : (clock now : ℕ) (m : Message) → clock ≤ now → messageWithin clock m ≡ true → messageWithin now m ≡ true

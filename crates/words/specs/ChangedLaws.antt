@@ -3,7 +3,6 @@ use Prim.Native.Nat.{ℕ, _+_, _*_, _/_, _%_, _<_}
 use mathlib.Core.Path.{_≡_, refl}
 use mathlib.Core.Bool.{Bool, true, false, not, _&&_, _||_}
 use native.Mathlib.Omega.{arith}
-use lib.Count.{ones-le}
 use lib.Dec.{leb, ltb}
 use borrow.Author.Tests.{leb-true, lt-ltb}
 use Rattle.octets.specs.Split.{and-left, and-right}
@@ -15,7 +14,7 @@ use Rattle.state.specs.declared.Message.{Message}
 use Rattle.state.specs.declared.Sender.{Sender}
 use Rattle.state.specs.Limits.{lastWithin, messageWithin}
 use Rattle.state.specs.State.{noMessage, withMessage, withHeard, withLast}
-use Rattle.state.specs.WithinLaws.{message-facts}
+use Rattle.state.specs.WithinLaws.{message-facts, held-most}
 use Rattle.rules.specs.calls.Alike.{seen}
 use Rattle.words.specs.declared.Record.{Record}
 use Rattle.words.specs.Words.{half, flag, flagWord, pair, cutWord, lastIn, messageIn, senderOf, joinedBy, heardAs, fits}
@@ -69,8 +68,7 @@ within-there clock r m ok e f g d =
     let several = several-facts (m .n) (m .tbn) (m .u) (facts .cut) in
     let number = leb-true (m .number .0) M (and-right (leb 1 (m .number .0)) (leb (m .number .0) M) (facts .number)) in
     let most = several-most (m .n) (m .tbn) (m .u) several in
-    let held = ones-le (m .tbn) (m .map) (omega (arith, facts .not-full)) in
-    message-there r m e f g d (omega arith) (omega (arith, several .big)) (omega (arith, several .high)) (omega (arith, facts .held, held, most)) (omega (arith, most))
+    message-there r m e f g d (omega arith) (omega (arith, several .big)) (omega (arith, several .high)) (omega (arith, held-most clock m facts)) (omega (arith, most))
 
 -- ---- a message call
 

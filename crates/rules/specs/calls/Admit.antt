@@ -117,6 +117,7 @@ messageOf clock map held h = record {
   stamp = clock;
 }
 
+-- The message that is then open.
 abbrev pub messageAfter : ℕ → Sender → Head → Message
 messageAfter clock s h = messageOf clock (mapAfter s h) (keptAfter s h) h
 

@@ -5,7 +5,7 @@ use mathlib.Core.Bool.{true, false, _&&_, false≢true}
 use Prim.Native.Nat.{ℕ, _+_, _-_, _^_, _<_}
 use native.Mathlib.Numerals.{add-one}
 use native.Mathlib.Omega.{arith}
-use lib.Count.{ones, ones-le}
+use lib.Count.{ones}
 use lib.Dec.{eqb, leb, ltb}
 use lib.Pow.{pow-pos}
 use borrow.Author.Tests.{eqb-true, eqb-false, lt-ltb}
@@ -15,7 +15,7 @@ use Rattle.ring.specs.Ring.{M, isNumber}
 use Rattle.header.specs.declared.Head.{Head}
 use Rattle.header.specs.Codes.{isUser}
 use Rattle.cut.specs.Possible.{unit, messageLength}
-use Rattle.cut.specs.PossibleLaws.{possible-facts, possible-several, several-facts, several-most, several-of}
+use Rattle.cut.specs.PossibleLaws.{possible-facts, possible-several, several-of}
 use Rattle.map.specs.Map.{fullMap, pieceBit}
 use Rattle.map.specs.MapLaws.{bit-zero, set-below, holds-not}
 use Rattle.state.specs.declared.Last.{Last}
@@ -23,7 +23,7 @@ use Rattle.state.specs.declared.Sender.{Sender}
 use Rattle.rules.specs.calls.Admit.{rejoins, sameCut, verdictOf, mapAfter, keptAfter, fills, lastBy, closed, messageAfter, opened, senderAfter}
 use Rattle.rules.specs.calls.AdmitLaws.{Admitted, rejoins-open, map-adds, map-one-more, fills-full}
 use Rattle.state.specs.Limits.{lastWithin}
-use Rattle.state.specs.WithinLaws.{MessageWithin, message-facts, message-of, SenderWithin, Stays}
+use Rattle.state.specs.WithinLaws.{MessageWithin, message-facts, message-of, held-most, SenderWithin, Stays}
 
 -- A number that 13 lets pass is within the limits of a last number, under any version.
 number-last : (v n : ℕ) → isNumber n ≡ true → lastWithin (record { version = record { 0 = v }; number = record { 0 = n } }) ≡ true
@@ -64,9 +64,7 @@ module _ (n1 clock : ℕ) (s : Sender) (h : Head) (a : Admitted n1 s h) where
       (λ (r : rejoins s h ≡ true).
       let m = s .message in
       let o = message-facts clock m (f .message (rejoins-open s h r)) in
-      let few = ones-le (m .tbn) (m .map) (omega (arith, o .not-full)) in
-      let most = several-most (m .n) (m .tbn) (m .u) (several-facts (m .n) (m .tbn) (m .u) (o .cut)) in
-      rw (map-one-more n1 s h a, r, o .held, lt-ltb (ones (m .map)) 255 (omega (arith, few, most)), add-one (ones (m .map))))
+      rw (map-one-more n1 s h a, r, lt-ltb (m .held) 255 (omega (arith, held-most clock m o)), o .held, add-one (ones (m .map))))
       (λ (r : rejoins s h ≡ false). rw (map-one-more n1 s h a, r) (unfold ones in refl))
       (true-or-false (rejoins s h))
 
