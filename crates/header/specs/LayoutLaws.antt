@@ -4,7 +4,7 @@ use mathlib.Core.Path.{_≡_, refl, sym, ap, _∙_}
 use mathlib.Core.Logic.{_⊎_, inl, inr, ⊎-elim}
 use mathlib.Core.Bool.{Bool, true, false, _||_}
 use mathlib.Core.List.{List, [], _∷_, _++_}
-use Prim.Native.Nat.{ℕ, zero, suc, _+_, _-_, _*_, _/_, _%_, _^_, _≤_, _<_}
+use Prim.Native.Nat.{ℕ, zero, suc, _+_, _-_, _^_, _≤_, _<_}
 use native.Mathlib.Nat.{zero-div, zero-mod}
 use native.Mathlib.Omega.{arith}
 use lib.Dec.{leb, ltb}
@@ -12,7 +12,7 @@ use lib.ListN.{length, take, drop, length-append, length-take, length-drop, List
 use lib.Seq.{ext-getD, getD-at, getD-append-add, getD-take, getD-drop}
 use borrow.Author.Tests.{leb-true, ltb-true, le-leb, lt-ltb}
 use Rattle.octets.specs.Number.{octet, number, octets}
-use Rattle.octets.specs.NumberLaws.{Octets, length-octets, number-ext, number-octets-fits}
+use Rattle.octets.specs.NumberLaws.{Octets, length-octets, number-ext, number-octets-fits, octets-number}
 use Rattle.octets.specs.Run.{laid}
 use Rattle.octets.specs.RunLaws.{laid-in, laid-out, length-laid}
 use Rattle.octets.specs.Split.{lt-or-le, true-or-false, never-both, both, not-both, and-left, and-right, either}
@@ -335,22 +335,6 @@ layout-slot n r rs t m a b h =
         ∙ ap (octet (octets (r .size) (r .value))) f
 
 -- ---- what is read makes up what it was read from
-
-octets-number : (w : ℕ) (s : List ℕ) (at k : ℕ) → Octets s → k < w → octet (octets w (number w s at)) k ≡ octet s (at + k)
-unfolding octets number
-octets-number zero s at k o h = absurd (omega arith)
-octets-number (suc w) s at k o h =
-    let small : octet s (at + w) < 256 = o .small (at + w) in
-    let high : (number w s at * 256 + octet s (at + w)) / 256 ≡ number w s at = omega arith in
-    let low : (number w s at * 256 + octet s (at + w)) % 256 ≡ octet s (at + w) = omega arith in
-    rw (high, low) (⊎-elim
-    (λ (l : k < w).
-    List·getD-append (octets w (number w s at)) (octet s (at + w) ∷ []) 0 k (omega (arith, length-octets w (number w s at)))
-    ∙ octets-number w s at k o l)
-    (λ (l : w ≤ k).
-    let e : k ≡ w = omega arith in
-    rw e (getD-at (octets w (number w s at)) (octet s (at + w)) [] 0 w (length-octets w (number w s at))))
-    (lt-or-le k w))
 
 -- Each slot has the number that is read at its place.
 pub data Read (s : List ℕ) : List Slot → Type 0 where

@@ -5,12 +5,13 @@ use mathlib.Core.List.{List, [], _∷_, _++_, append-assoc}
 use Prim.Native.Nat.{ℕ, zero, suc, _+_, _-_, _*_, _/_, _%_, _^_, _≤_, _<_}
 use native.Mathlib.Nat.{add-zero, add-suc, zero-add, mul-assoc, pow-suc, add-mul, mod-one, mod-eq-of-lt, mul-le-mul-right}
 use native.Mathlib.Omega.{arith}
-use mathlib.Core.Bool.{_&&_}
+use mathlib.Core.Bool.{true, _&&_}
 use lib.Arith.{mod-mul, digits-lt}
-use lib.Dec.{eqb}
+use lib.Dec.{eqb, ltb}
 use lib.ListN.{length, take, drop, set, length-append, drop-of-length-le, List·getD-append}
-use lib.Seq.{getD-drop, getD-at, drop-append-le, drop-at, set-split, length-take-le}
-use borrow.Author.Tests.{eqb-true, eq-eqb}
+use lib.Pow.{areBytes}
+use lib.Seq.{ext-getD, getD-take, getD-drop, getD-at, drop-append-le, drop-at, set-split, length-take-le}
+use borrow.Author.Tests.{eqb-true, eq-eqb, ltb-true, lt-ltb}
 use Rattle.octets.specs.Number.{octet, number, octets}
 use Rattle.octets.specs.Run.{laid}
 use Rattle.octets.specs.RunLaws.{laid-in, laid-out}
@@ -121,6 +122,62 @@ pub number-beside : (w : ℕ) (s : List ℕ) (a b : ℕ) (p : List ℕ) → b + 
 number-beside w s a b p fits = ⊎-elim
     (λ (h : a + w ≤ b). number-ext w (laid s b p) s a a (λ k q. laid-out s b p fits (a + k) (inl (omega arith))))
     (λ (h : b + length p ≤ a). number-ext w (laid s b p) s a a (λ k q. laid-out s b p fits (a + k) (inr (omega arith))))
+
+-- The octets of a number that was read are those that it was read from.
+pub octets-number : (w : ℕ) (s : List ℕ) (at k : ℕ) → Octets s → k < w → octet (octets w (number w s at)) k ≡ octet s (at + k)
+unfolding octets number
+octets-number zero s at k o h = absurd (omega arith)
+octets-number (suc w) s at k o h =
+    let small : octet s (at + w) < 256 = o .small (at + w) in
+    let high : (number w s at * 256 + octet s (at + w)) / 256 ≡ number w s at = omega arith in
+    let low : (number w s at * 256 + octet s (at + w)) % 256 ≡ octet s (at + w) = omega arith in
+    rw (high, low) (⊎-elim
+    (λ (l : k < w).
+    List·getD-append (octets w (number w s at)) (octet s (at + w) ∷ []) 0 k (omega (arith, length-octets w (number w s at)))
+    ∙ octets-number w s at k o l)
+    (λ (l : w ≤ k).
+    let e : k ≡ w = omega arith in
+    rw e (getD-at (octets w (number w s at)) (octet s (at + w)) [] 0 w (length-octets w (number w s at))))
+    (lt-or-le k w))
+
+pub octets-run : (w : ℕ) (s : List ℕ) → Octets s → w ≤ length s → octets w (number w s 0) ≡ take w s
+octets-run w s o room = ext-getD 0 (octets w (number w s 0)) (take w s) (length-octets w (number w s 0) ∙ sym (length-take-le w s room))
+    (λ i h.
+    let l : i < w = omega (arith, length-octets w (number w s 0)) in
+    octets-number w s 0 i o l ∙ ap (octet s) (zero-add i) ∙ sym (getD-take w s i 0 l))
+
+-- A number reads back from what begins with its octets.
+pub number-front : (w x : ℕ) (t : List ℕ) → x < 256 ^ w → number w (octets w x ++ t) 0 ≡ x
+number-front w x t h =
+    number-ext w (octets w x ++ t) (octets w x) 0 0 (λ k q. List·getD-append (octets w x) t 0 (0 + k) (omega (arith, length-octets w x)))
+    ∙ number-octets-fits w x h
+
+-- ---- lists of octets, by the library's test
+
+byte-at : (s : List ℕ) (i : ℕ) → areBytes s ≡ true → octet s i < 256
+byte-at [] i e = omega arith
+byte-at (x ∷ s) zero e = ltb-true x 256 (and-left (ltb x 256) (areBytes s) e)
+byte-at (x ∷ s) (suc i) e = byte-at s i (and-right (ltb x 256) (areBytes s) e)
+
+pub bytes-octets : (s : List ℕ) → areBytes s ≡ true → Octets s
+bytes-octets s e = record { small = λ i. byte-at s i e }
+
+pub octets-bytes : (s : List ℕ) → Octets s → areBytes s ≡ true
+octets-bytes [] o = refl
+octets-bytes (x ∷ s) o = both (ltb x 256) (areBytes s) (lt-ltb x 256 (o .small 0)) (octets-bytes s (record { small = λ i. o .small (suc i) }))
+
+pub bytes-append : (s t : List ℕ) → areBytes s ≡ true → areBytes t ≡ true → areBytes (s ++ t) ≡ true
+bytes-append [] t e f = f
+bytes-append (x ∷ s) t e f =
+    both (ltb x 256) (areBytes (s ++ t)) (and-left (ltb x 256) (areBytes s) e) (bytes-append s t (and-right (ltb x 256) (areBytes s) e) f)
+
+pub octets-small : (w x : ℕ) → areBytes (octets w x) ≡ true
+unfolding octets
+octets-small zero x = refl
+octets-small (suc w) x =
+    bytes-append (octets w (x / 256)) (x % 256 ∷ []) (octets-small w (x / 256)) (both (ltb (x % 256) 256) true (lt-ltb (x % 256) 256 (omega arith)) refl)
+
+-- ---- nought
 
 -- A number is 0 where both of its parts are.
 pub number-zero : (a b : ℕ) (s : List ℕ) (at : ℕ) → eqb (number a s at) 0 && eqb (number b s (at + a)) 0 ≡ eqb (number (a + b) s at) 0

@@ -1,11 +1,11 @@
 -- Laws of runs: what was laid down is there, and all else stays. Assumes nothing.
 use mathlib.Core.Path.{_≡_, sym, ap, _∙_}
 use mathlib.Core.Logic.{_⊎_, ⊎-elim}
-use mathlib.Core.List.{List, _++_, append-assoc}
+use mathlib.Core.List.{List, [], _++_, append-assoc, append-nil}
 use Prim.Native.Nat.{ℕ, _+_, _-_, _≤_, _<_}
 use native.Mathlib.Nat.{add-assoc}
 use native.Mathlib.Omega.{arith}
-use lib.ListN.{length, take, drop, take-append-drop, length-append, length-take, length-drop, List·getD-append}
+use lib.ListN.{length, take, drop, take-append-drop, drop-of-length-le, length-append, length-take, length-drop, List·getD-append}
 use lib.Seq.{drop-append-le, take-append-le, take-append-seam, take-take, length-take-le, getD-append-add, getD-take, getD-drop, take-add, paste, take-length, take-at, drop-at, drop-drop, drop-append-seam}
 use borrow.Author.Tests.{le-leb, lt-leb}
 use Rattle.octets.specs.Number.{octet}
@@ -141,6 +141,17 @@ module _ (s : List ℕ) (at : ℕ) (p : List ℕ) (fits : at + length p ≤ leng
 pub laid-first : (s p t : List ℕ) → length p ≤ length s → t ≡ laid s 0 p → take (length p) t ≡ p
 unfolding run
 laid-first s p t fits e = rw e (run-laid s 0 p (omega arith))
+
+-- Laying down nothing changes nothing.
+pub laid-nothing : (s : List ℕ) (at : ℕ) → at ≤ length s → laid s at [] ≡ s
+laid-nothing s at h =
+    let e : at + 0 ≡ at = omega arith in
+    laid-fits s at [] (omega arith) ∙ ap (λ (k : ℕ). take at s ++ drop k s) e ∙ take-append-drop at s
+
+-- What is laid over all of a list is what is left.
+pub laid-all : (s p : List ℕ) → length p ≡ length s → laid s 0 p ≡ p
+laid-all s p e =
+    laid-fits s 0 p (omega (arith, e)) ∙ ap (λ (l : List ℕ). p ++ l) (drop-of-length-le s {i = 0 + length p} (omega (arith, e))) ∙ append-nil p
 
 -- A run of a run.
 pub run-run : (at n b k : ℕ) (s : List ℕ) → b + k ≤ n → at + n ≤ length s → run b k (run at n s) ≡ run (at + b) k s
