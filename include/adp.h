@@ -1,6 +1,6 @@
-/* The receiver and the cutter of ADP R3.0 for a board whose sockets are C; C99 or C++. board/build makes the archive to
- * link, target/staticlib/libboard.a; it needs memcpy and memmove from the C library and nothing else. Numbers and words are those
- * of docs/PROMISES.md.
+/* The receiver and the cutter of ADP R3.0, and the fault section of its alive signals, for a board whose sockets are C;
+ * C99 or C++. board/build makes the archive to link, target/staticlib/libboard.a; it needs memcpy and memmove from the
+ * C library and nothing else. Numbers and words are those of docs/PROMISES.md.
  *
  * The library has no globals, no heap and no threads: a call reads and writes only what is lent to it, and keeps
  * nothing of it. Calls on different states may run at the same time; calls on one state must not.
@@ -27,8 +27,10 @@ enum {
     ADP_AREA = 16384,      /* octets of storage for each sender, and the most octets of a message */
     ADP_HEADER = 64,       /* octets before a piece in its PDU */
     ADP_LONGEST = 1460,    /* the most octets of a message's PDU */
+    ADP_ALIVE = 128,       /* octets before the fault section in an alive signal's PDU */
     ADP_LONGEST_ALIVE = 1472,
-    ADP_LEAST_UNIT = 256, /* the least and the most octets of a piece but the last */
+    ADP_LONGEST_FAULT = 1344, /* the most octets of a fault section */
+    ADP_LEAST_UNIT = 256,     /* the least and the most octets of a piece but the last */
     ADP_MOST_UNIT = 1396
 };
 
@@ -50,7 +52,9 @@ enum {
     ADP_HELD = 20,        /* the piece is held already; whether its octets are the same is not compared */
     ADP_BAD_CLOCK = 21,   /* the clock goes back, or above its limit of 1,099,511,627,776 ms */
     ADP_BAD_ALIVE = 22,   /* an alive signal whose ML, CBN, TBN, group or body is wrong */
-    ADP_BAD_PIECE = 23    /* cutter: length, unit, piece number or a header value outside limits, or the buffer short */
+    ADP_BAD_PIECE = 23,   /* cutter: length, unit, piece number or a header value outside limits, or the buffer short;
+                           * or a buffer too short for a fault section */
+    ADP_BAD_FAULT = 24    /* octets that are no fault section, or parts of which none can be written */
 };
 
 /* What the number check says of a delivered message. */
@@ -112,6 +116,27 @@ struct adp_given {
     uint8_t pri;
 };
 
+/* What a fault section says. With ADP_BAD_FAULT all but the number is 0. */
+struct adp_fault {
+    uint8_t number;
+    uint32_t modules, errors, options; /* how many; of the options, how many octets */
+    uint8_t name[8];                   /* of the scheme that numbers the errors */
+};
+
+struct adp_error {
+    uint16_t module, error; /* the module from 1 */
+};
+
+/* Where a section's options lie in it: `length` octets, from `start` on; both 0 where there are none. */
+struct adp_options {
+    size_t start, length;
+};
+
+struct adp_written {
+    uint8_t number;
+    uint16_t length; /* of the section; 0 on a refusal */
+};
+
 /* Makes ADP_STATE_WORDS words, whatever they hold, a state: nobody heard, nothing open, the clock at 0. Settings
  * outside their limits: ADP_BAD_SETUP, and the words are then the empty state, which has no senders and refuses every
  * PDU. Another number of words: ADP_BAD_SETUP, and they stay. */
@@ -126,7 +151,9 @@ struct adp_answer adp_message_tallied(uint64_t *state, size_t words, uint8_t *st
                                       const uint8_t *packet, size_t size, uint32_t *tally);
 
 /* Takes an alive signal's PDU. ADP_DONE says that it was taken, not that its sender is alive: by al_mode 1 the sender
- * is alive, by 2 and 3 it is dead. */
+ * is alive, by 2 and 3 it is dead. Behind its first ADP_ALIVE octets stands nothing, or a fault section to the end;
+ * otherwise ADP_BAD_FAULT. Where there is one, adp_fault_read and the calls below it read it: the size - ADP_ALIVE
+ * octets from packet + ADP_ALIVE on. */
 uint8_t adp_alive(uint64_t *state, size_t words, const uint8_t *packet, size_t size);
 
 /* Moves the time, which no other call does, in ms since setup: drops each open message without a new piece for T ms,
@@ -144,6 +171,29 @@ uint8_t adp_held(const uint64_t *state, size_t words, uint8_t place);
 /* Writes the PDU of one piece, from 1, of a message cut into pieces of `u` octets. Octets behind the PDU stay. */
 struct adp_cutting adp_cut(struct adp_given given, const uint8_t *message, size_t length, uint16_t u, uint8_t piece,
                            uint8_t *buffer, size_t room);
+
+/* Reads a fault section, which is all of these octets: ADP_DONE, or ADP_BAD_FAULT. Only this call judges. The three
+ * below it give what stands at the places that the counts in the octets name, in a section or not; an octet past the
+ * end counts as 0. */
+struct adp_fault adp_fault_read(const uint8_t *section, size_t size);
+
+/* Whether module `x`, from 1, is dead. Module 0, and one above the count, is alive. */
+bool adp_fault_dead(const uint8_t *section, size_t size, uint32_t x);
+
+/* The error of an index, from 0. Past the count it is 0, 0. */
+struct adp_error adp_fault_error(const uint8_t *section, size_t size, uint32_t index);
+
+/* Where the options lie, cut to what was lent. */
+struct adp_options adp_fault_options(const uint8_t *section, size_t size);
+
+/* Writes a fault section. `bits` has (modules + 31) / 32 * 4 octets; module X is dead where bit (X - 1) % 8, lowest
+ * first, of octet (X - 1) / 8 is set, and no bit above the count may be. `errors` has two numbers for each error, the
+ * module, which is not 0, and the error. `name` has eight octets. A buffer too short for the section: ADP_BAD_PIECE,
+ * before anything else. What breaks these rules, or comes to more than ADP_LONGEST_FAULT octets: ADP_BAD_FAULT. Octets
+ * behind the section stay. */
+struct adp_written adp_fault_write(uint32_t modules, const uint8_t *bits, size_t octets, const uint16_t *errors,
+                                   size_t numbers, const uint8_t *name, const uint8_t *options, size_t length,
+                                   uint8_t *buffer, size_t room);
 
 #ifdef __cplusplus
 }

@@ -37,6 +37,7 @@ struct caller {
     /* Where they lie during calls. */
     struct room state_room, storage_room, tally_room;
     struct room packet_room, buffer_room;
+    struct room bits_room, errors_room, name_room;
 };
 
 static void need(const struct caller *c, bool good, const char *what) {
@@ -234,6 +235,95 @@ static void call_cut(struct caller *c) {
     need(c, take_back(&c->buffer_room, NULL), "octets beside the buffer change");
 }
 
+/* ---- the fault section */
+
+static void call_read(struct caller *c) {
+    struct adp_fault fault = adp_fault_read(lend_packet(c, 0), c->length);
+    take_packet(c);
+    fprintf(c->out, "G %u %" PRIu32 " %" PRIu32 " %" PRIu32, fault.number, fault.modules, fault.errors, fault.options);
+    for (size_t i = 0; i < sizeof fault.name; i++) fprintf(c->out, " %u", fault.name[i]);
+    fputc('\n', c->out);
+}
+
+static void call_dead(struct caller *c) {
+    need(c, c->length >= 4, "a call for a module of a wrong length");
+    bool dead = adp_fault_dead(lend_packet(c, 4), c->length - 4, (uint32_t)number_at(c->contents, 4));
+    take_packet(c);
+    fprintf(c->out, "B %u\n", dead);
+}
+
+static void call_error(struct caller *c) {
+    need(c, c->length >= 4, "a call for an error of a wrong length");
+    struct adp_error error =
+        adp_fault_error(lend_packet(c, 4), c->length - 4, (uint32_t)number_at(c->contents, 4));
+    take_packet(c);
+    fprintf(c->out, "L %u %u\n", error.module, error.error);
+}
+
+static void call_options(struct caller *c) {
+    const uint8_t *section = lend_packet(c, 0);
+    struct adp_options options = adp_fault_options(section, c->length);
+    need(c, options.start <= c->length && options.length <= c->length - options.start,
+         "options that do not fit what was lent");
+    need(c, options.length > 0 || options.start == 0, "no options, and they start somewhere");
+    uint32_t options_sum = sum(section + options.start, options.length);
+    take_packet(c);
+    fprintf(c->out, "O %zu %" PRIu32 "\n", options.length, options_sum);
+}
+
+/* The parts of a section in a field: where they stand in its contents, and how many there are. */
+struct given_parts {
+    size_t bits, octets, errors, numbers, name, options;
+};
+
+static struct given_parts parts_in(const struct caller *c) {
+    struct given_parts p = {.bits = 8};
+    need(c, c->length >= p.bits, "a section to write of a wrong length");
+    p.octets = (size_t)number_at(c->contents + 6, 2);
+    p.errors = p.bits + p.octets + 2;
+    need(c, c->length >= p.errors, "a section to write whose bits are cut");
+    p.numbers = (size_t)number_at(c->contents + p.errors - 2, 2);
+    p.name = p.errors + 2 * p.numbers;
+    p.options = p.name + 8;
+    need(c, c->length >= p.options, "a section to write whose errors or name are cut");
+    return p;
+}
+
+static const uint16_t *lend_errors(struct caller *c, const struct given_parts *p) {
+    uint16_t numbers[CONTENTS / 2];
+    for (size_t i = 0; i < p->numbers; i++) numbers[i] = (uint16_t)number_at(c->contents + p->errors + 2 * i, 2);
+    return lend_constant(&c->errors_room, c->way, numbers, p->numbers * sizeof *numbers);
+}
+
+static struct adp_written written_into(struct caller *c, uint8_t *buffer, size_t room) {
+    const struct given_parts p = parts_in(c);
+    const uint8_t *bits = lend_constant(&c->bits_room, c->way, c->contents + p.bits, p.octets);
+    const uint16_t *errors = lend_errors(c, &p);
+    const uint8_t *name = lend_constant(&c->name_room, c->way, c->contents + p.name, 8);
+    const uint8_t *options = lend_packet(c, p.options);
+    struct adp_written written = adp_fault_write((uint32_t)number_at(c->contents + 2, 4), bits, p.octets, errors,
+                                                 p.numbers, name, options, c->length - p.options, buffer, room);
+    take_packet(c);
+    need(c, take_back(&c->bits_room, NULL), "octets beside the bits change");
+    need(c, take_back(&c->errors_room, NULL), "octets beside the errors change");
+    need(c, take_back(&c->name_room, NULL), "octets beside the name change");
+    return written;
+}
+
+static void call_write(struct caller *c) {
+    need(c, c->length >= 2, "a section to write of a wrong length");
+    uint8_t before[CONTENTS];
+    memset(before, FILL, sizeof before);
+    size_t room = (size_t)number_at(c->contents, 2);
+    uint8_t *buffer = lend(&c->buffer_room, c->way, before, room);
+    struct adp_written written = written_into(c, buffer, room);
+    need(c, written.length <= room, "a section longer than its buffer");
+    fprintf(c->out, "Z %u %u %" PRIu32 " %" PRIu32 "\n", written.number, written.length,
+            sum(buffer, written.length), sum(buffer + written.length, room - written.length));
+    need(c, written.number < REFUSAL || same(&c->buffer_room, before), "a refusal changes the buffer");
+    need(c, take_back(&c->buffer_room, NULL), "octets beside the buffer change");
+}
+
 /* ---- the state, shown and damaged */
 
 static void show_sender(struct caller *c, size_t i) {
@@ -300,6 +390,11 @@ static void make_call(struct caller *c) {
     case 'Q': call_question(c); break;
     case 'H': call_held(c); break;
     case 'K': call_cut(c); break;
+    case 'G': call_read(c); break;
+    case 'B': call_dead(c); break;
+    case 'L': call_error(c); break;
+    case 'O': call_options(c); break;
+    case 'Z': call_write(c); break;
     case 'W': show(c); break;
     case 't': damage_settings(c); break;
     case 'r': damage_sender(c); break;
@@ -350,5 +445,8 @@ struct caller *new_caller(const char *name, enum way way, bool tallied, FILE *ou
     open_room(&c->tally_room, sizeof c->tally);
     open_room(&c->packet_room, CONTENTS);
     open_room(&c->buffer_room, CONTENTS);
+    open_room(&c->bits_room, CONTENTS);
+    open_room(&c->errors_room, CONTENTS);
+    open_room(&c->name_room, 8);
     return c;
 }

@@ -26,6 +26,21 @@ static adp_given header_values() {
     return given;
 }
 
+// One module, which is dead, and one error, written and read.
+static bool section_comes_back() {
+    const uint8_t bits[] = {1, 0, 0, 0}, name[] = {'P', 'U', 'M', 'P', 0, 0, 0, 1};
+    const uint16_t errors[] = {1, 515};
+    uint8_t section[ADP_LONGEST_FAULT];
+    adp_written written = adp_fault_write(1, bits, sizeof bits, errors, 2, name, NULL, 0, section, sizeof section);
+    adp_fault fault = adp_fault_read(section, written.length);
+    adp_error error = adp_fault_error(section, written.length, 0);
+    adp_options options = adp_fault_options(section, written.length);
+    bool read = written.number == ADP_DONE && written.length == 28 && fault.number == ADP_DONE && fault.modules == 1;
+    bool counted = fault.errors == 1 && fault.options == 0 && fault.name[3] == 'P' && fault.name[7] == 1;
+    bool dead = adp_fault_dead(section, written.length, 1) && !adp_fault_dead(section, written.length, 2);
+    return read && counted && dead && error.module == 1 && error.error == 515 && options.length == 0;
+}
+
 int main() {
     const uint8_t message[] = {7, 8, 9};
     unsigned number = adp_setup(state, ADP_STATE_WORDS, one_sender());
@@ -33,7 +48,8 @@ int main() {
     adp_answer a = adp_message(state, ADP_STATE_WORDS, storage, sizeof storage, pdu, cutting.length);
     bool delivered = number == ADP_DONE && cutting.number == ADP_DONE && a.number == ADP_DELIVERED;
     bool whole = a.verdict == ADP_FIRST && a.slice == ADP_IN_PACKET && a.length == sizeof message;
-    if (delivered && whole && pdu[a.start] == 7 && pdu[a.start + 2] == 9) return 0;
-    fprintf(stderr, "header: setup %u, cutter %u, message %u\n", number, cutting.number, a.number);
+    bool section = section_comes_back();
+    if (delivered && whole && pdu[a.start] == 7 && pdu[a.start + 2] == 9 && section) return 0;
+    fprintf(stderr, "header: setup %u, cutter %u, message %u, section %d\n", number, cutting.number, a.number, section);
     return 1;
 }

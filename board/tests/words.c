@@ -8,6 +8,7 @@
 #include "held.h"
 #include "layout.h"
 #include "octets.h"
+#include "pdus.h"
 #include "room.h"
 
 #include <inttypes.h>
@@ -36,54 +37,9 @@ static void need_number(unsigned got, unsigned wanted, const char *name, const c
     exit(1);
 }
 
-/* ---- PDUs */
-
-struct pdu {
-    size_t length;
-    uint8_t octets[ADP_LONGEST];
-};
-
-static struct pdu header(uint8_t field, uint16_t node, uint64_t ml, uint8_t cbn, uint8_t tbn, size_t length) {
-    struct pdu p = {.length = length};
-    memcpy(p.octets, "NUXM", 4);
-    lay(p.octets + 4, 4, ml);
-    p.octets[9] = field;
-    lay(p.octets + 10, 2, node);
-    p.octets[54] = 1;
-    p.octets[56] = cbn;
-    p.octets[57] = tbn;
-    lay(p.octets + 58, 2, length);
-    return p;
-}
-
-/* Version 5, SEQ 100, code 1; `n` octets in pieces of `u`, all octets 0. */
-static struct pdu piece(uint8_t field, uint16_t node, size_t n, size_t u, uint8_t number) {
-    size_t tbn = n <= u ? 1 : (n + u - 1) / u;
-    size_t p = number < tbn ? u : n - (tbn - 1) * u;
-    struct pdu made_of = header(field, node, n + ADP_HEADER, number, (uint8_t)tbn, p + ADP_HEADER);
-    lay(made_of.octets + 12, 4, 65537);
-    lay(made_of.octets + 16, 4, 5);
-    lay(made_of.octets + 20, 4, 100);
-    lay(made_of.octets + 24, 4, 2147483648);
-    lay(made_of.octets + 40, 2, 1);
-    return made_of;
-}
-
-/* The word of such a message's cut. */
+/* The word of the cut of a message of code 1. */
 static uint64_t cut_word(uint64_t n, uint64_t u, uint64_t held, uint64_t tbn) {
     return 65536 * HALF + n * HALF + u * 65536 + held * 256 + tbn;
-}
-
-static struct pdu signal_of(uint8_t field, uint16_t node, uint8_t mode) {
-    struct pdu p = header(field, node, 128, 1, 1, 128);
-    lay(p.octets + 12, 4, 65536);
-    lay(p.octets + 40, 2, 60003);
-    p.octets[55] = 1;
-    lay(p.octets + 84, 4, 60);
-    p.octets[90] = mode;
-    p.octets[91] = 4;
-    p.octets[105] = 1;
-    return p;
 }
 
 /* ---- calls */

@@ -1,5 +1,5 @@
 /* A shore desk: sends a raft two tables of 16,384 octets and a word of 80 between them over a stream, cut by the
- * library, and an alive signal as a datagram ten times a second until its standard input ends.
+ * library, and an alive signal with a fault section as a datagram ten times a second until its standard input ends.
  *
  *   desk STREAM_PORT SIGNAL_PORT VERSION SEED SILENCE FOLDER
  *
@@ -81,11 +81,26 @@ static void cut_next(struct desk *d) {
 
 static bool all_sent(const struct desk *d) { return d->message == MESSAGES && d->out.sent == d->out.length; }
 
-/* The library reads alive signals and does not write them. All that is not laid here is 0. */
-static void make_signal(struct desk *d, uint8_t *octets) {
-    memset(octets, 0, ALIVE_SIZE);
+/* What stands behind a signal: of three modules the second is dead, with error 515 of those that are named DESK. */
+static size_t write_faults(uint8_t *octets, size_t room) {
+    static const uint8_t bits[4] = {2}, name[8] = {'D', 'E', 'S', 'K'};
+    static const uint16_t errors[] = {2, 515};
+    struct adp_written written =
+        adp_fault_write(3, bits, sizeof bits, errors, sizeof errors / sizeof *errors, name, NULL, 0, octets, room);
+    if (written.number != ADP_DONE) {
+        fprintf(stderr, "desk: the fault section was not written: %d\n", written.number);
+        exit(1);
+    }
+    return written.length;
+}
+
+/* The library reads alive signals; of those to send it writes the fault section alone. All that is not laid here is
+ * 0. Returns the signal's length. */
+static size_t make_signal(struct desk *d, uint8_t *octets) {
+    size_t length = ADP_ALIVE + write_faults(octets + ADP_ALIVE, ADP_LONGEST_FAULT);
+    memset(octets, 0, ADP_ALIVE);
     memcpy(octets + H_TYPE, "NUXM", 4);
-    lay_number(octets + ML, 4, ALIVE_SIZE);
+    lay_number(octets + ML, 4, (uint32_t)length);
     lay_number(octets + FIELD, 1, OWN_FIELD);
     lay_number(octets + NODE, 2, OWN_NODE);
     lay_number(octets + DA, 4, EVERYBODY);
@@ -95,22 +110,23 @@ static void make_signal(struct desk *d, uint8_t *octets) {
     lay_number(octets + PRI, 1, 1);
     lay_number(octets + CBN, 1, 1);
     lay_number(octets + TBN, 1, 1);
-    lay_number(octets + BSIZE, 2, ALIVE_SIZE);
+    lay_number(octets + BSIZE, 2, (uint32_t)length);
     memcpy(octets + AL_ND_NAME, "desk7", 5);
     lay_number(octets + AL_TM_OUT, 4, d->silence);
     lay_number(octets + AL_MSGSERNO, 2, ++d->signals_sent);
     lay_number(octets + AL_MODE, 1, 1);
     lay_number(octets + AL_PROTOCOL, 1, 4);
     lay_number(octets + AL_VER, 1, 1);
+    return length;
 }
 
 /* A signal that is not sent, or is lost, is made good by the next one: nothing is done about it. */
 static void signal_if_due(struct desk *d) {
-    uint8_t octets[ALIVE_SIZE];
+    uint8_t octets[ADP_LONGEST_ALIVE];
     uint64_t now = now_ms();
     if (now < d->signal_due) return;
-    make_signal(d, octets);
-    (void)send(d->signals, octets, sizeof octets, 0);
+    size_t length = make_signal(d, octets);
+    (void)send(d->signals, octets, length, 0);
     d->signal_due = now + SIGNAL_EVERY;
 }
 

@@ -22,7 +22,7 @@
 #include <unistd.h>
 
 /* A desk connects once; the other places are for one that connects anew before its old stream is known to be dead. */
-enum { SENDERS = 2, STREAMS = 4, TICK = 100, VERDICTS = ADP_UNCHECKED + 1, NUMBERS = ADP_BAD_PIECE + 1 };
+enum { SENDERS = 2, STREAMS = 4, TICK = 100, VERDICTS = ADP_UNCHECKED + 1, NUMBERS = ADP_BAD_FAULT + 1 };
 
 struct stream {
     struct inlet in; /* fd -1: the place is free */
@@ -30,9 +30,16 @@ struct stream {
     uint64_t last_read;
 };
 
+/* The fault section of a sender's last signal; no octets where it had none. */
+struct report {
+    size_t size;
+    uint8_t octets[ADP_LONGEST_FAULT];
+};
+
 /* What the maintenance page shows and the state does not tell: the library answers once, at the call. */
 struct page {
     bool alive[SENDERS];
+    struct report reports[SENDERS];
     uint32_t delivered[VERDICTS], refused[NUMBERS], signals[NUMBERS];
     uint32_t dropped, out_of_step;
     uint32_t tally[2];
@@ -166,6 +173,43 @@ static void set_alive(struct raft *r, size_t sender, bool alive) {
     printf(" is %s\n", alive ? "alive" : "dead");
 }
 
+/* The name may be any octets. */
+static void say_name(const uint8_t *name, size_t size) {
+    for (size_t i = 0; i < size && name[i] != 0; i++) putchar(name[i] > ' ' && name[i] <= '~' ? name[i] : '?');
+}
+
+static void say_report(const struct raft *r, size_t sender) {
+    const struct report *report = &r->page.reports[sender];
+    struct adp_fault fault = adp_fault_read(report->octets, report->size);
+    name_sender(r, sender);
+    if (fault.number != ADP_DONE) {
+        printf(" reports no modules and no errors\n");
+        return;
+    }
+    printf(" reports %" PRIu32 " modules, dead:", fault.modules);
+    for (uint32_t x = 1; x <= fault.modules; x++) {
+        if (adp_fault_dead(report->octets, report->size, x)) printf(" %" PRIu32, x);
+    }
+    printf("; %" PRIu32 " errors:", fault.errors);
+    for (uint32_t i = 0; i < fault.errors; i++) {
+        struct adp_error error = adp_fault_error(report->octets, report->size, i);
+        printf(" ");
+        say_name(fault.name, sizeof fault.name);
+        printf(" %d of %d", error.error, error.module);
+    }
+    printf("\n");
+}
+
+/* The section of an accepted signal, which lies in the packet: it is copied, so that the page can show it later. */
+static void keep_report(struct raft *r, size_t sender, const uint8_t *section, size_t size) {
+    struct report *report = &r->page.reports[sender];
+    if (size == report->size && memcmp(section, report->octets, size) == 0) return;
+    memcpy(report->octets, section, size);
+    report->size = size;
+    printf("raft: ");
+    say_report(r, sender);
+}
+
 static void take_signal(struct raft *r) {
     /* One octet more than the longest: `recv` cuts a datagram to the room that it finds, and one that is too long must
      * not pass for one that is not. */
@@ -182,7 +226,9 @@ static void take_signal(struct raft *r) {
         return;
     }
     /* There is no call that tells who is alive: accepted signals and the clock's answers do. */
-    set_alive(r, sender_of(r, packet), packet[AL_MODE] == 1);
+    size_t sender = sender_of(r, packet);
+    set_alive(r, sender, packet[AL_MODE] == 1);
+    keep_report(r, sender, packet + ADP_ALIVE, (size_t)got - ADP_ALIVE);
 }
 
 /* Before anything else of a turn, so that what comes is stamped with the time at which it was taken. */
@@ -221,6 +267,9 @@ static void show_page(const struct raft *r) {
         name_sender(r, i);
         printf(" %s, %d held\n", r->page.alive[i] ? "alive" : "dead",
                adp_held(r->state, ADP_STATE_WORDS, (uint8_t)i));
+        if (r->page.reports[i].size == 0) continue;
+        printf("page: ");
+        say_report(r, i);
     }
     printf("page: ");
     say_missing(r);

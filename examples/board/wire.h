@@ -16,7 +16,7 @@
 enum {
     H_TYPE = 0, ML = 4, FIELD = 9, NODE = 10, DA = 12, V_SEQ = 16, SEQ = 20, TCD = 40, PVER = 54, PRI = 55, CBN = 56,
     TBN = 57, BSIZE = 58,
-    AL_ND_NAME = 64, AL_TM_OUT = 84, AL_MSGSERNO = 88, AL_MODE = 90, AL_PROTOCOL = 91, AL_VER = 105, ALIVE_SIZE = 128
+    AL_ND_NAME = 64, AL_TM_OUT = 84, AL_MSGSERNO = 88, AL_MODE = 90, AL_PROTOCOL = 91, AL_VER = 105
 };
 
 /* What has become of a stream after a step. */

@@ -1,6 +1,7 @@
 //! Alive signals: the alive header's places (5.3, Table 8) and the alive call.
 
 use crate::answers::{first_that_applies, STORED};
+use crate::fault;
 use crate::header::{self, read_head, Code, Head, Place};
 use crate::octets;
 use crate::state::{within_limits, Receiver};
@@ -64,12 +65,12 @@ fn read_body(packet: &[u8]) -> Body {
     }
 }
 
-/// The alive call: its number. "Octets after the first 128 are passed over."
+/// The alive call: its number.
 pub fn alive(receiver: &mut Receiver, packet: &[u8]) -> u8 {
     let head = read_head(packet);
     let body = read_body(packet);
     let sender = receiver.place_of(head.field, head.node);
-    if let Some(number) = refusal(receiver, packet.len(), &head, &body, sender) {
+    if let Some(number) = refusal(receiver, packet, &head, &body, sender) {
         return number;
     }
     if let Some(at) = sender {
@@ -78,14 +79,16 @@ pub fn alive(receiver: &mut Receiver, packet: &[u8]) -> u8 {
     STORED
 }
 
-/// "Alive signals use 9, 12, 13, 14, 22 only".
+/// "Alive signals use 9, 12, 13, 14, 22 only", and by 02, which narrows 01, 24
+/// "after 22".
 fn refusal(
     receiver: &Receiver,
-    length: usize,
+    packet: &[u8],
     head: &Head,
     body: &Body,
     sender: Option<usize>,
 ) -> Option<u8> {
+    let length = packet.len();
     first_that_applies(&[
         // "a state with a setting, sender, time [...] outside"
         (9, !within_limits(receiver)),
@@ -98,6 +101,8 @@ fn refusal(
         (14, sender.is_none()),
         // "alive ML, CBN, TBN, group or body wrong"
         (22, frame_wrong(length, head) || body_wrong(body)),
+        // "a fault section that breaks these rules"
+        (24, section_wrong(packet)),
     ])
 }
 
@@ -127,6 +132,11 @@ fn group(da: u32) -> u16 {
 /// 01: "al_protocol is 4, al_ver 1, al_mode 1 to 3".
 fn body_wrong(body: &Body) -> bool {
     body.protocol != 4 || body.ver != 1 || !(1..=3).contains(&body.mode)
+}
+
+/// 02: "The section ends the PDU exactly, or is absent in a PDU of 128 octets".
+fn section_wrong(packet: &[u8]) -> bool {
+    packet.len() > ALIVE_LEAST && !fault::is_section(&packet[ALIVE_LEAST..])
 }
 
 /// 01: "Mode 1: the sender is alive, stamped with the clock and al_tm_out (unit

@@ -3,10 +3,11 @@
 use std::collections::BTreeMap;
 
 /// Reads printed lines, of a run or of the edges, and gives "KIND NUMBER COUNT"
-/// lines, sorted. The kinds are the lines' own letters (A, C, E, F, K, P, Q, S)
-/// and V for the verdict of a P line; F is counted under its `next`, E, which
+/// lines, sorted. The kinds are the lines' own letters (A, C, E, F, G, K, P, Q, S,
+/// Z) and V for the verdict of a P line; F is counted under its `next`, E, which
 /// bears no number, under 0. Titles, states, kept counts, the cutter's octets and
-/// parts (#, W, w, H, k, R) bear no answer's number and are passed over.
+/// parts, of messages and of sections (#, W, w, H, k, R, B, L, O), bear no answer's
+/// number and are passed over.
 pub fn counts(lines: &str) -> Result<String, String> {
     let mut counts: BTreeMap<(char, u64), u64> = BTreeMap::new();
     for (at, line) in lines.lines().enumerate() {
@@ -45,6 +46,11 @@ fn kinds_of(line: &str) -> Option<Vec<(char, u64)>> {
         ("k", octets) if octets.len() == 64 => Some(Vec::new()),
         ("R", [_, _]) => Some(Vec::new()),
         ("F", [next, _, _, _]) => Some(vec![('F', *next)]),
+        ("G", [answer, counts_and_name @ ..]) if counts_and_name.len() == 11 => {
+            Some(vec![('G', *answer)])
+        }
+        ("B", [_]) | ("L" | "O", [_, _]) => Some(Vec::new()),
+        ("Z", [answer, _, _, _]) => Some(vec![('Z', *answer)]),
         ("E", []) => Some(vec![('E', 0)]),
         _ => None,
     }
@@ -83,6 +89,14 @@ mod tests {
     }
 
     #[test]
+    fn counts_sections_read_and_written_and_passes_over_their_parts() {
+        let lines = "G 0 33 2 5 65 66 67 68 69 70 71 72\nG 24 0 0 0 0 0 0 0 0 0 0 0\nB 1\nB 0\n\
+                     L 0 0\nO 5 9\nZ 0 20 9 7\nZ 23 0 7 9\nZ 24 0 7 9\nZ 24 0 7 9\n";
+        let expected = "G 0 1\nG 24 1\nZ 0 1\nZ 23 1\nZ 24 2\n";
+        assert_eq!(counts(lines).unwrap(), expected);
+    }
+
+    #[test]
     fn tells_the_number_of_a_wrong_line() {
         let runs = ["P 1 1 0", "Q 1", "S", "S x", "", "C 0 0 0 0", "E 1", "S  0"];
         let edges = ["P 1 1 0 0 0 0 0 7", "#", "W 0 16 15000 0", "w 0 1 7", "W"];
@@ -97,6 +111,12 @@ mod tests {
             "R 0 7 7",
             "F 3 2 5",
             "f 0 0 0 7",
+            "G 24",
+            "G 24 0 0 0 0 0 0 0 0 0 0",
+            "B 1 0",
+            "L 1",
+            "O 1",
+            "Z 0 20 9",
         ];
         for wrong in [&runs[..], &edges, &more].concat() {
             let lines = format!("S 0\n{wrong}\n");

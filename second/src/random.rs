@@ -154,10 +154,10 @@ mod tests {
 
     /// Every answer of each kind of line, and every verdict, that the program
     /// can give (9, 11 and 23 can't be reached through it).
-    const REACHED: [&str; 27] = [
+    const REACHED: [&str; 28] = [
         "S 0", "S 10", "P 0", "P 1", "P 12", "P 13", "P 14", "P 15", "P 16", "P 17", "P 18",
-        "P 19", "P 20", "C 0", "C 21", "A 0", "A 12", "A 13", "A 14", "A 22", "V 0", "V 1", "V 2",
-        "V 3", "V 4", "V 5", "C drop",
+        "P 19", "P 20", "C 0", "C 21", "A 0", "A 12", "A 13", "A 14", "A 22", "A 24", "V 0", "V 1",
+        "V 2", "V 3", "V 4", "V 5", "C drop",
     ];
 
     fn reached_by(lines: &str) -> BTreeSet<String> {

@@ -7,6 +7,7 @@ use crate::dice::Dice;
 use crate::header::{self, Head, Place, HEADER};
 use crate::numbers::M;
 use crate::octets;
+use crate::sections::{broken_section, good_section};
 use crate::stage::Stage;
 use crate::state::{Sender, Setup, CLOCK_MOST};
 
@@ -14,7 +15,7 @@ use crate::state::{Sender, Setup, CLOCK_MOST};
 pub type Scene = fn(&mut dyn Stage);
 
 /// The deck. A scene that stands twice is played twice as often.
-pub const SCENES: [Scene; 32] = [
+pub const SCENES: [Scene; 33] = [
     new_setup,
     new_setup,
     refused_setup,
@@ -41,6 +42,7 @@ pub const SCENES: [Scene; 32] = [
     clock_far,
     alive_modes,
     damaged_alive,
+    broken_sections,
     damaged_pdu,
     test_message,
     stranger,
@@ -303,7 +305,7 @@ pub fn before_setup(stage: &mut dyn Stage) {
     refused_setup(stage);
     tick(stage, 0);
     stage.clock(0u64);
-    let alive = alive_pdu(stage.dice(), (1, 7), 1, 0, 128);
+    let alive = alive_pdu(stage.dice(), (1, 7), 1, 0, &[]);
     stage.alive(&alive);
 }
 
@@ -624,8 +626,19 @@ fn clock_far(stage: &mut dyn Stage) {
     new_setup(stage);
 }
 
-pub fn alive_pdu(dice: &mut Dice, from: (u8, u16), mode: u8, timeout: u32, size: u16) -> Vec<u8> {
-    let mut pdu: Vec<u8> = (0..size).map(|_| dice.throw() as u8).collect();
+/// An alive signal with anything in the places that nobody looks at, and behind
+/// its 128 octets these.
+pub fn alive_pdu(
+    dice: &mut Dice,
+    from: (u8, u16),
+    mode: u8,
+    timeout: u32,
+    section: &[u8],
+) -> Vec<u8> {
+    let size = (alive::ALIVE_LEAST + section.len()) as u16;
+    let mut pdu: Vec<u8> = (0..alive::ALIVE_LEAST)
+        .map(|_| dice.throw() as u8)
+        .collect();
     let head = Head {
         ml: size.into(),
         field: from.0,
@@ -647,15 +660,29 @@ pub fn alive_pdu(dice: &mut Dice, from: (u8, u16), mode: u8, timeout: u32, size:
     put(&mut pdu, alive::AL_MODE, mode.into());
     put(&mut pdu, alive::AL_PROTOCOL, 4);
     put(&mut pdu, alive::AL_VER, 1);
+    pdu.extend(section);
     pdu
 }
 
+/// With a fault section or without.
 pub fn good_alive(stage: &mut dyn Stage, at: usize, mode: u8, timeout: u32) -> Vec<u8> {
+    let section = match stage.dice().one_in(2) {
+        true => good_section(stage.dice()),
+        false => Vec::new(),
+    };
+    alive_of(stage, at, mode, timeout, &section)
+}
+
+/// Broken most of the time; now and then it is a section all the same.
+pub fn broken_alive(stage: &mut dyn Stage, at: usize, mode: u8, timeout: u32) -> Vec<u8> {
+    let section = broken_section(stage.dice());
+    alive_of(stage, at, mode, timeout, &section)
+}
+
+fn alive_of(stage: &mut dyn Stage, at: usize, mode: u8, timeout: u32, section: &[u8]) -> Vec<u8> {
     let sender = sender_at(stage, at);
     let from = (sender.field, sender.node);
-    let any = stage.dice().between(128, 1_472) as u16;
-    let size = stage.dice().one_of(&[128, 128, 128, 129, 1_472, any]);
-    alive_pdu(stage.dice(), from, mode, timeout, size)
+    alive_pdu(stage.dice(), from, mode, timeout, section)
 }
 
 pub fn hear(stage: &mut dyn Stage, at: usize, mode: u8, timeout: u32) {
@@ -685,6 +712,25 @@ fn damaged_alive(stage: &mut dyn Stage) {
         }
         stage.alive(&pdu);
     }
+}
+
+/// 02: "24 for a fault section that breaks these rules, after 22": in every mode,
+/// at senders alive and dead, alone and with another number.
+fn broken_sections(stage: &mut dyn Stage) {
+    let at = any_sender(stage);
+    hear(stage, at, 1, 60);
+    for _ in 0..5 {
+        let at = stage.dice().one_in(2).then_some(at);
+        let at = at.unwrap_or_else(|| any_sender(stage));
+        let mode = stage.dice().between(1, 3) as u8;
+        let timeout = stage.dice().one_of(&[0, 1, 7]);
+        let mut pdu = broken_alive(stage, at, mode, timeout);
+        if stage.dice().one_in(5) {
+            damage_alive(stage.dice(), &mut pdu);
+        }
+        stage.alive(&pdu);
+    }
+    tick(stage, 1);
 }
 
 /// Damages one thing that an alive call looks at.

@@ -6,6 +6,7 @@ use crate::cut;
 use crate::fields::{field, setup_contents, TAG_ALIVE, TAG_CLOCK, TAG_MESSAGE, TAG_SETUP};
 use crate::header::{self, Head, Place, HEADER};
 use crate::octets;
+use crate::section_text::section_of;
 use crate::state::Setup;
 
 /// The longest message or piece that a text can write: a PDU's two-octet length
@@ -46,7 +47,7 @@ fn octets_of(line: &str) -> Result<Vec<u8>, String> {
 }
 
 /// A number in decimal, or in hexadecimal behind 0x; `_` may part its digits.
-fn number_of(word: &str, most: u128) -> Result<u128, String> {
+pub(crate) fn number_of(word: &str, most: u128) -> Result<u128, String> {
     let digits = word.replace('_', "");
     let number = match digits.strip_prefix("0x") {
         Some(hex) => u128::from_str_radix(hex, 16),
@@ -60,7 +61,7 @@ fn number_of(word: &str, most: u128) -> Result<u128, String> {
 }
 
 /// Octets as pairs of hexadecimal digits.
-fn hex_octets(word: &str) -> Result<Vec<u8>, String> {
+pub(crate) fn hex_octets(word: &str) -> Result<Vec<u8>, String> {
     let wrong = || format!("{word:?} is not made of pairs of hexadecimal digits");
     let pairs = word.as_bytes().chunks(2).all(|pair| pair.len() == 2);
     if !pairs || !word.bytes().all(|digit| digit.is_ascii_hexdigit()) {
@@ -73,7 +74,7 @@ fn hex_octets(word: &str) -> Result<Vec<u8>, String> {
 }
 
 /// The `name=value` words of one line, taken one by one.
-struct Values<'a> {
+pub(crate) struct Values<'a> {
     pairs: Vec<(&'a str, &'a str)>,
 }
 
@@ -92,7 +93,7 @@ impl<'a> Values<'a> {
         Ok(Values { pairs })
     }
 
-    fn take(&mut self, name: &str) -> Option<&'a str> {
+    pub(crate) fn take(&mut self, name: &str) -> Option<&'a str> {
         let at = self.pairs.iter().position(|(other, _)| *other == name)?;
         Some(self.pairs.remove(at).1)
     }
@@ -105,7 +106,7 @@ impl<'a> Values<'a> {
         }
     }
 
-    fn u32(&mut self, name: &str, usual: u32) -> Result<u32, String> {
+    pub(crate) fn u32(&mut self, name: &str, usual: u32) -> Result<u32, String> {
         Ok(self.number(name, usual.into(), u32::MAX.into())? as u32)
     }
 
@@ -117,9 +118,12 @@ impl<'a> Values<'a> {
         Ok(self.number(name, usual.into(), u8::MAX.into())? as u8)
     }
 
+    pub(crate) fn names(&self, name: &str) -> bool {
+        self.pairs.iter().any(|(other, _)| *other == name)
+    }
+
     fn wants(&self, names: &[&str]) -> Result<(), String> {
-        let missing = |name: &&&str| !self.pairs.iter().any(|(other, _)| other == *name);
-        match names.iter().find(missing) {
+        match names.iter().find(|name| !self.names(name)) {
             Some(name) => Err(format!("{name}= is wanting")),
             None => Ok(()),
         }
@@ -339,9 +343,14 @@ fn finish_packet(
 fn alive_field(words: &[&str]) -> Result<Vec<u8>, String> {
     let mut values = Values::of(words)?;
     values.wants(&["field", "node"])?;
-    let size = values.u16("size", alive::ALIVE_LEAST as u16)?;
+    let section = section_of(&mut values)?;
+    let whole = u16::try_from(alive::ALIVE_LEAST + section.len())
+        .map_err(|_| format!("{} octets of a section are too many", section.len()))?;
+    let size = values.u16("size", whole)?;
     let fill = values.u8("fill", 0)?;
-    let mut packet = vec![fill; alive::ALIVE_LEAST.max(size.into())];
+    let mut packet = vec![fill; alive::ALIVE_LEAST];
+    packet.extend(section);
+    packet.resize(alive::ALIVE_LEAST.max(size.into()), fill);
     lay_alive_header(&mut values, &mut packet)?;
     let usual = Head {
         ml: size.into(),

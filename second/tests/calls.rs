@@ -36,7 +36,8 @@ fn room(tag: char) -> (usize, usize) {
         // 1 + 2 + 4 + 1, and 1 + 2 for each of 16 places.
         'S' | 's' => (56, 56),
         'P' | 'p' => (4, 4 + 1_461),
-        'A' | 'a' => (127, 1_473),
+        // 128 and up to 1,348 octets behind them.
+        'A' | 'a' => (127, 1_476),
         'C' | 'c' => (8, 8),
         'Q' | 'W' => (0, 0),
         'H' => (1, 1),
@@ -45,6 +46,10 @@ fn room(tag: char) -> (usize, usize) {
         'K' => (29, 29 + 20_000),
         'R' => (21, 21 + 74),
         'F' => (0, 3 + 65_000),
+        'G' | 'O' => (0, 1_348),
+        'B' | 'L' => (4, 4 + 1_348),
+        // 2 + 4 + 2 + 2 + 8, and 32,750 numbers at most.
+        'Z' => (18, 18 + 65_500),
         _ => panic!("no such tag: {tag:?}"),
     }
 }
@@ -240,6 +245,61 @@ fn cutter_part_and_field_octet_by_octet() {
     let rows = section("12.1 Cut at each place");
     let whole = vec![4, 0, 3, 4, 21, 38, 1, 1];
     assert_eq!(rows.last(), Some(&('F', whole)));
+}
+
+/// Section (33, 2, 5): L is 8, errors (1, 3) and (2, 260), options from 5 by 11.
+const A_SECTION: [u8; 41] = [
+    0, 0, 0, 33, 73, 146, 36, 73, 0, 0, 0, 0, 0, 0, 0, 2, // modules, bits, errors
+    65, 66, 67, 68, 69, 70, 71, 72, 0, 1, 0, 3, 0, 2, 1, 4, // name, errors
+    0, 0, 0, 5, 5, 16, 27, 38, 49, // options
+];
+
+#[test]
+fn sections_octet_by_octet() {
+    let read = section("13.4 Options and lengths of a section");
+    assert_eq!(tags(&read), ["s", &"G".repeat(92)].concat());
+    assert_eq!(read[1].1, A_SECTION);
+    // One octet early and two late, the last row but three and the last.
+    assert_eq!(read[89].1, A_SECTION[..40]);
+    assert_eq!(read[92].1, [&A_SECTION[..], &[0, 0]].concat());
+    let options = section("13.8 Options of any octets");
+    assert_eq!(tags(&options), ["s", &"O".repeat(21)].concat());
+    assert_eq!(options[3].1, A_SECTION);
+    assert_eq!(options[21].1, [255; 20]);
+    let alive = section("7.8 24 and other numbers");
+    assert_eq!(tags(&alive), ["s", &"sA".repeat(46)].concat());
+    assert_eq!(alive[2].1[128..], A_SECTION);
+    assert_eq!((alive[2].1[7], alive[2].1[59]), (169, 169));
+    assert_eq!((alive[4].1[128 + 35], alive[4].1.len()), (4, 169));
+}
+
+/// 10593 is 41 x 256 + 97; 4294967295 is 255 four times.
+#[test]
+fn parts_of_sections_octet_by_octet() {
+    let modules = section("13.6 Modules of any octets");
+    let mut expected = vec![0, 0, 41, 97];
+    expected.extend([0, 0, 41, 96]);
+    assert_eq!(modules[4].1[..8], expected);
+    assert_eq!(
+        modules[8].1[..13],
+        [0, 0, 0, 8, 0, 0, 0, 1, 255, 255, 255, 255, 0]
+    );
+    let errors = section("13.7 Errors by their index");
+    assert_eq!(errors[3].1[..9], [255, 255, 255, 255, 0, 0, 0, 0, 0]);
+    assert_eq!(errors[3].1.len(), 4 + 20);
+}
+
+/// The last row of 13.13: a buffer of 35, 5 modules of which 1 and 4 are dead.
+#[test]
+fn written_sections_octet_by_octet() {
+    let rows = section("13.13 Numbers of errors");
+    let mut expected = vec![0, 35, 0, 0, 0, 5, 0, 4, 9, 0, 0, 0];
+    expected.extend([0, 4, 0, 6, 0, 1, 255, 255, 0, 2]);
+    expected.extend([65, 66, 67, 68, 69, 70, 71, 72, 5, 16, 27]);
+    assert_eq!(rows.last(), Some(&('Z', expected)));
+    let mut short = vec![0, 19, 0, 0, 0, 0, 0, 0, 0, 0];
+    short.extend([65, 66, 67, 68, 69, 70, 71, 72]);
+    assert_eq!(section("13.9 What is written")[1], ('Z', short));
 }
 
 /// "such a program needs nothing of this page but "The calls as fields"".

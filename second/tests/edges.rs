@@ -590,7 +590,8 @@ w 1 2 9 0 0 0 0 0 0 0 0 0 0 0 0 0 0 0",
 
 #[test]
 fn alive_pdus() {
-    let lengths = [12, 0, 0, 12, 12, 12, 12, 12, 22, 22, 22];
+    // 1,472 octets have 1,344 behind the header, all 0: no section.
+    let lengths = [12, 0, 24, 12, 12, 12, 12, 12, 22, 22, 22];
     expect_numbers("7.1 Lengths of an alive PDU", "A", "", &lengths);
     let places = [
         13, 13, 13, 13, // H_TYPE, domain, PVER, FUI

@@ -141,7 +141,7 @@ fn count_in(tally: &str, kind: &str) -> u64 {
         .unwrap_or(0)
 }
 
-/// 01's numbers, each where it can be given, and each `next` of a field.
+/// 01's and 02's numbers, each where it can be given, and each `next` of a field.
 #[test]
 fn edges_then_tally_reach_every_number() {
     let edges = second(&["edges"], b"");
@@ -152,11 +152,13 @@ fn edges_then_tally_reach_every_number() {
         ("S", &[0, 10][..]),
         ("P", &[0, 1, 9, 11, 12, 13, 14, 15, 16, 17, 18, 19, 20]),
         ("V", &[0, 1, 2, 3, 4, 5]),
-        ("A", &[0, 9, 12, 13, 14, 22]),
+        ("A", &[0, 9, 12, 13, 14, 22, 24]),
         ("C", &[0, 9, 21]),
         ("Q", &[0, 9]),
         ("K", &[0, 23]),
         ("F", &[0, 1, 2, 3]),
+        ("G", &[0, 24]),
+        ("Z", &[0, 23, 24]),
     ];
     let mut reached = 0;
     for (kind, numbers) in kinds {

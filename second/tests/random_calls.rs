@@ -57,14 +57,16 @@ fn the_fields_alone_give_the_same_lines() {
 }
 
 /// Every answer of each kind of line, and every verdict.
-const REACHED: [(&str, &[u8]); 7] = [
+const REACHED: [(&str, &[u8]); 9] = [
     ("S", &[0, 10]),
     ("P", &[0, 1, 9, 11, 12, 13, 14, 15, 16, 17, 18, 19, 20]),
     ("V", &[0, 1, 2, 3, 4, 5]),
-    ("A", &[0, 9, 12, 13, 14, 22]),
+    ("A", &[0, 9, 12, 13, 14, 22, 24]),
     ("C", &[0, 9, 21]),
     ("Q", &[0, 9]),
     ("K", &[0, 23]),
+    ("G", &[0, 24]),
+    ("Z", &[0, 23, 24]),
 ];
 
 #[test]
@@ -172,10 +174,8 @@ fn nine_comes_before_every_other_number() {
             *seen.entry(number).or_default() += 1;
         }
     }
-    assert_eq!(
-        seen.into_keys().collect::<Vec<_>>(),
-        (11..=22).collect::<Vec<_>>()
-    );
+    let numbers: Vec<u8> = (11..=22).chain([24]).collect();
+    assert_eq!(seen.into_keys().collect::<Vec<_>>(), numbers);
 }
 
 /// Drops and deaths by the clock, sixteen senders, and messages of 16,384 octets,

@@ -433,13 +433,18 @@ fn make_alive_hold(state: &mut Receiver, packet: &mut Vec<u8>, row: u8) {
         13 => packet[55] = 8,
         14 => packet[11] = 3,
         22 => packet[90] = 4,
+        // An octet behind the 128, told by ML and BSIZE: no section.
+        24 => {
+            packet.push(0);
+            (packet[7], packet[59]) = (129, 129);
+        }
         _ => panic!("no row {row} in the alive call"),
     }
 }
 
 #[test]
 fn alive_rows_alone_and_in_pairs() {
-    let rows = [9, 12, 13, 14, 22];
+    let rows = [9, 12, 13, 14, 22, 24];
     assert_eq!(alive_number(&|_, _| ()), 0);
     for (i, low) in rows.iter().enumerate() {
         for high in &rows[i..] {
@@ -464,7 +469,8 @@ fn alive_row_12_on_both_sides() {
         })
     };
     assert_eq!((of_length(127, 127), of_length(128, 128)), (12, 0));
-    assert_eq!((of_length(1472, 1472), of_length(1473, 1473)), (0, 12));
+    // As long as may be, but no section.
+    assert_eq!((of_length(1472, 1472), of_length(1473, 1473)), (24, 12));
     assert_eq!((of_length(129, 128), of_length(129, 130)), (12, 12));
     assert_eq!((of_length(0, 0), of_length(64, 64)), (12, 12));
 }
@@ -544,6 +550,88 @@ fn alive_row_22_each_part() {
         let number = alive_number(&|_, packet| packet[at] ^= 0xff);
         assert_eq!(number, 0, "octet {at}");
     }
+}
+
+/// The alive signal with these octets behind its 128, ML and BSIZE to match.
+fn with_section(mode: u8, section: &[u8]) -> u8 {
+    alive_number(&|_, packet| {
+        packet[90] = mode;
+        packet.extend(section);
+        let length = packet.len() as u16;
+        lay(packet, 4, &u32::from(length).to_be_bytes());
+        lay(packet, 58, &length.to_be_bytes());
+    })
+}
+
+/// "129 to 147 octets of PDU are 24; 148 with 20 zeros has an empty section".
+#[test]
+fn alive_row_24_by_length() {
+    for length in 0..=30 {
+        let expected = if [0, 20].contains(&length) { 0 } else { 24 };
+        assert_eq!(with_section(1, &vec![0; length]), expected, "{length}");
+    }
+    // 1,324 = 5 x 256 + 44 octets of options make 1,472 octets in all.
+    let options = |count: [u8; 2], octets: usize| {
+        let counts = [&[0; 18][..], &count].concat();
+        with_section(1, &[counts, vec![7; octets]].concat())
+    };
+    assert_eq!(options([5, 44], 1_323), 24);
+    assert_eq!(options([5, 44], 1_324), 0);
+    assert_eq!(options([5, 43], 1_324), 24);
+    assert_eq!(options([5, 45], 1_324), 24);
+    // 1,473 octets are too many for any alive signal.
+    assert_eq!(options([5, 45], 1_325), 12);
+}
+
+/// 33 modules with the last dead, and an error of module 9.
+const A_SECTION: [u8; 32] = [
+    0, 0, 0, 33, 0, 0, 0, 0, 1, 0, 0, 0, // modules, bits
+    0, 0, 0, 1, 1, 2, 3, 4, 5, 6, 7, 8, // errors, name
+    0, 9, 0, 0, 0, 0, 0, 0, // module, error, options
+];
+
+/// "In the alive call 24 comes after 22, in every mode". (That a refused signal
+/// changes nothing is held by `alive_number`.)
+#[test]
+fn alive_row_24_in_every_mode() {
+    let with = |mode: u8, at: usize, octet: u8| {
+        let mut section = A_SECTION;
+        section[at] = octet;
+        with_section(mode, &section)
+    };
+    assert_eq!((with(1, 8, 1), with(1, 8, 0)), (0, 0));
+    // Bits above the count: the first, the last of its octet, the last of all.
+    assert_eq!((with(1, 8, 3), with(1, 8, 129)), (24, 24));
+    assert_eq!((with(1, 9, 1), with(1, 11, 128)), (24, 24));
+    // Another number of modules, errors, octets of options; an error of module 0.
+    assert_eq!((with(1, 3, 32), with(1, 3, 65)), (24, 24));
+    assert_eq!((with(1, 15, 0), with(1, 15, 2)), (24, 24));
+    assert_eq!((with(1, 31, 1), with(1, 25, 0)), (24, 24));
+    // The error's number and the name are any.
+    assert_eq!((with(1, 27, 255), with(1, 16, 0)), (0, 0));
+    for mode in [2, 3] {
+        // A sender that is not alive stays so: only the number tells.
+        assert_eq!(refused_in_mode(mode), 24);
+    }
+    assert_eq!((with(0, 25, 0), with(4, 25, 0)), (22, 22));
+}
+
+/// The number for a broken section in this mode, at a sender that is alive and
+/// stays it.
+fn refused_in_mode(mode: u8) -> u8 {
+    let mut state = receiver(&[(1, 7), (1, 2)]);
+    assert_eq!(alive(&mut state, &alive_of_node_2()), 0);
+    let before = state.clone();
+    let mut packet = alive_of_node_2();
+    packet[90] = mode;
+    packet.extend(A_SECTION);
+    (packet[7], packet[59]) = (160, 160);
+    let good = alive(&mut state.clone(), &packet);
+    assert_eq!(good, 0, "mode {mode}");
+    packet[128 + 25] = 0;
+    let number = alive(&mut state, &packet);
+    assert_eq!(state, before);
+    number
 }
 
 // ---- clock and question ----

@@ -100,17 +100,23 @@ fn long_times_are_reckoned_in_64_bits() {
     assert_eq!(at(&mut state, CLOCK_MOST), (0, 0, 0));
 }
 
+/// A fault section says nothing of the sender's life: the state is the same with
+/// it and without.
 #[test]
-fn octets_after_128_are_passed_over() {
-    let mut state = desk();
-    let mut long = signal(1, 9);
-    long.resize(1472, 0xff);
-    lay(&mut long, 4, &1472u32.to_be_bytes());
-    lay(&mut long, 58, &1472u16.to_be_bytes());
-    let mut short = desk();
-    assert_eq!(alive(&mut state, &long), 0);
-    assert_eq!(alive(&mut short, &signal(1, 9)), 0);
-    assert_eq!(state, short);
+fn a_section_changes_nothing_of_what_is_heard() {
+    for mode in [1, 2, 3] {
+        let mut long = signal(mode, 9);
+        // An empty section: 20 octets, each 0.
+        long.resize(148, 0);
+        (long[7], long[59]) = (148, 148);
+        let (mut with, mut without) = (desk(), desk());
+        for state in [&mut with, &mut without] {
+            assert_eq!(alive(state, &signal(1, 5)), 0);
+        }
+        assert_eq!(alive(&mut with, &long), 0);
+        assert_eq!(alive(&mut without, &signal(mode, 9)), 0);
+        assert_eq!(with, without, "mode {mode}");
+    }
 }
 
 /// A desk with drop time T and figure 54's message opened at ms 100.

@@ -3,15 +3,17 @@
 //
 // It is total: it takes any state and any octets, and refuses with their number those outside the limits.
 ghost use mathlib.Core.Path.{_≡_};
-ghost use Rattle.rules.specs.calls.Alive.{aliveHeadWithin, aliveWithin, signalRows, heardBy, aliveAnswer};
+ghost use Rattle.rules.specs.calls.Alive.{aliveHeadWithin, aliveWithin, faultWithin, signalRows, heardBy, aliveAnswer};
 ghost use Rattle.rules.specs.calls.First.{first};
 use answers::Call;
 use answers::Noted;
+use fault::reading::is_section;
 use header::Head;
 use header::codes::code_of;
 use header::common_within;
 use header::length_outside;
 use header::read_head;
+use octets::from;
 use signal::Body;
 use signal::MOST;
 use signal::SIZE;
@@ -45,7 +47,7 @@ pub fn alive(mut state: Receiver, packet: &[u8]) -> Noted
     }
 }
 
-// The first of 9, 12, 13, 14 and 22 that applies, or 0.
+// The first of 9, 12, 13, 14, 22 and 24 that applies, or 0.
 pub fn signal_number(valid: bool, count: u8, at: u8, packet: &[u8], h: Head, body: Body) -> u8
     ensures { λ r. ⌜ r ≡ first (signalRows valid count at (now (packet .entry)) h body) ⌝ }
 {
@@ -62,7 +64,10 @@ pub fn signal_number(valid: bool, count: u8, at: u8, packet: &[u8], h: Head, bod
     if count <= at {
         return 14;
     }
-    if !signal_within(size, h, body) { 22 } else { 0 }
+    if !signal_within(size, h, body) {
+        return 22;
+    }
+    if !fault_within(packet) { 24 } else { 0 }
 }
 
 // The fixed fields, PRI, MODE and the code; SEQ is not looked at.
@@ -84,6 +89,16 @@ fn signal_within(size: usize, h: Head, body: Body) -> bool
         & (cut.tbn == 1)
         & (group(given.da) == 0)
         & body.within()
+}
+
+// What stands behind the first 128 octets: nothing, or a fault section to the PDU's end.
+fn fault_within(packet: &[u8]) -> bool
+    ensures { λ r. ⌜ r ≡ faultWithin (now (packet .entry)) ⌝ }
+{
+    if packet.len() == SIZE {
+        return true;
+    }
+    is_section(from(packet, SIZE))
 }
 
 // The record of a sender that says that it is alive, or that it leaves.

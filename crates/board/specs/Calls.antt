@@ -18,6 +18,10 @@ use Rattle.answers.specs.declared.Ticked as by-value
 use Rattle.answers.specs.Told.{outcomeTold, outcomeRefused, whereTold, callNumber, questionTold}
 use Rattle.cut.specs.declared.cutter.Cutting as by-value-cutting
 use Rattle.cut.specs.Cutter.{cutterTold}
+use Rattle.fault.specs.declared.writing.Writing.{Writing}
+use Rattle.fault.specs.Places.{countAt}
+use Rattle.fault.specs.Reading.{optionsOf}
+use Rattle.fault.specs.Writing.{writingTold}
 use Rattle.rules.specs.calls.Alive.{aliveAnswer}
 use Rattle.rules.specs.calls.Clock.{clockAnswer}
 use Rattle.rules.specs.calls.Message.{messageAnswer, messageStorage}
@@ -28,9 +32,11 @@ use Rattle.tally.specs.declared.Tally.{Tally}
 use Rattle.tally.specs.Tally.{stopping}
 use Rattle.words.specs.Words.{wordsMost, word, isState, stateIn, wordsOf}
 use Rattle.board.specs.declared.Cutting.{Cutting}
+use Rattle.board.specs.declared.Options.{Options}
 use Rattle.board.specs.declared.Told.{Told}
 use Rattle.board.specs.declared.Missing.{Missing}
 use Rattle.board.specs.declared.Ticked.{Ticked}
+use Rattle.board.specs.declared.Written.{Written}
 
 -- ---- setup
 
@@ -133,6 +139,15 @@ heldFor l i = heldAt (stateIn l) i
 
 abbrev pub cuttingOf : by-value-cutting.Cutting → Cutting
 cuttingOf c = record { number = cutterTold c .number; length = cutterTold c .length }
+
+-- ---- the fault section
+
+-- "the options as a returned part": where they start, and how many octets they are.
+unfoldable pub optionsFor : List ℕ → Options
+optionsFor s = cond (eqb (length (optionsOf s)) 0) (record { start = 0; length = 0 }) (record { start = countAt s + 4; length = length (optionsOf s) })
+
+abbrev pub writtenOf : Writing → Written
+writtenOf w = record { number = writingTold w .number; length = writingTold w .length }
 
 -- ---- the tally
 

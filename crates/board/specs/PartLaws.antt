@@ -1,16 +1,16 @@
 -- Where the delivered octets lie, in numbers, is the part that `part` hands over, within what was lent. Assumes nothing.
-use Prim.Native.Nat.{ℕ, _+_, _-_, _*_, _≤_}
-use mathlib.Core.Path.{_≡_, refl, sym}
+use Prim.Native.Nat.{ℕ, _+_, _-_, _*_, _≤_, _<_}
+use mathlib.Core.Path.{_≡_, refl, sym, ap, _∙_}
 use mathlib.Core.Logic.{_≢_, ⊎-elim}
-use mathlib.Core.List.{List, []}
+use mathlib.Core.List.{List, [], _∷_}
 use native.Mathlib.Omega.{arith}
 use lib.Dec.{eqb}
-use lib.ListN.{length, drop, length-drop}
-use lib.Seq.{take-all}
+use lib.ListN.{length, take, drop, length-take, length-drop}
+use lib.Seq.{take-all, take-length, length-take-le}
 use borrow.Author.Tests.{eq-eqb, ne-eqb, le-leb}
 use Rattle.octets.specs.Run.{run}
 use Rattle.octets.specs.RunLaws.{length-laid}
-use Rattle.octets.specs.Split.{eq-or-ne, cond-case}
+use Rattle.octets.specs.Split.{lt-or-le, eq-or-ne, cond-case}
 use Rattle.header.specs.declared.Head.{Head}
 use Rattle.header.specs.Head.{headOf}
 use Rattle.header.specs.Places.{headerSize}
@@ -27,7 +27,9 @@ use Rattle.rules.specs.calls.Admit.{admitted}
 use Rattle.rules.specs.calls.Message.{area, messageNumber, messageAnswer, messageStorage, storageAfter, liesAt, whereBy, taken, refused}
 use Rattle.rules.specs.calls.MessageLaws.{taken-facts}
 use Rattle.rules.specs.calls.Part.{partOf, storedPart}
-use Rattle.board.specs.Calls.{partStart, partLength}
+use Rattle.fault.specs.Places.{countAt, optionsIn}
+use Rattle.fault.specs.Reading.{optionsOf}
+use Rattle.board.specs.Calls.{partStart, partLength, optionsFor}
 
 -- A part of octets that were lent: from a place on, so many, and all of them there.
 pub record Lies (octets : List ℕ) (start n : ℕ) (part : List ℕ) : Type 0 where
@@ -79,3 +81,33 @@ module _ (w : Receiver) (storage packet : List ℕ) where
       rw (eq-eqb (messageNumber w (length storage) packet) 0 none) (where-lies packet (messageStorage w storage packet) i h (admitted (w .n1) (w .clock) (senderAt w i) h .outcome) lie))
       (λ (ne : messageNumber w (length storage) packet ≢ 0). rw (ne-eqb (messageNumber w (length storage) packet) 0 ne))
       (eq-or-ne (messageNumber w (length storage) packet) 0)
+
+-- ---- the options of a fault section
+
+-- A run of so many octets as it has.
+run-own : (at n : ℕ) (s : List ℕ) → run at (length (run at n s)) s ≡ run at n s
+unfolding run
+run-own at n s = ⊎-elim
+    (λ (h : n < length (drop at s)). ap (λ (k : ℕ). take k (drop at s)) (length-take-le n (drop at s) (omega arith)))
+    (λ (h : length (drop at s) ≤ n).
+    let all : take n (drop at s) ≡ drop at s = take-all n (drop at s) h in
+    rw all (take-length (drop at s)))
+    (lt-or-le n (length (drop at s)))
+
+run-ends : (at n : ℕ) (s : List ℕ) → length (run at n s) ≢ 0 → at + length (run at n s) ≤ length s
+unfolding run
+run-ends at n s some = omega (arith, some, length-take n (drop at s), length-drop at s)
+
+none-there : (l : List ℕ) → length l ≡ 0 → l ≡ []
+none-there [] e = refl
+none-there (x ∷ l) e = absurd (omega arith)
+
+-- Where C is told that they lie they do.
+pub options-lie : (s : List ℕ) → Lies s (optionsFor s .start) (optionsFor s .length) (optionsOf s)
+unfolding optionsFor
+options-lie s = ⊎-elim
+    (λ (e : length (optionsOf s) ≡ 0). rw (eq-eqb (length (optionsOf s)) 0 e) (record { is = none-there (optionsOf s) e ∙ unfold run in refl; within = omega arith }))
+    (λ (e : length (optionsOf s) ≢ 0).
+    rw (ne-eqb (length (optionsOf s)) 0 e)
+    (unfold optionsOf in record { is = sym (run-own (countAt s + 4) (optionsIn s) s); within = run-ends (countAt s + 4) (optionsIn s) s e }))
+    (eq-or-ne (length (optionsOf s)) 0)

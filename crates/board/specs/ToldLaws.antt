@@ -6,10 +6,13 @@ use Rattle.answers.specs.declared.Answer.{Answer}
 use Rattle.answers.specs.declared.Missing as by-value-missing
 use Rattle.answers.specs.declared.Ticked as by-value
 use Rattle.answers.specs.Told.{WhereTold, whereTold, MessageTold, messageTold, ClockTold, clockTold, QuestionTold, questionTold}
+use Rattle.fault.specs.declared.writing.Writing.{Writing}
+use Rattle.fault.specs.Writing.{WritingTold, writingTold}
 use Rattle.board.specs.declared.Told.{Told}
 use Rattle.board.specs.declared.Missing.{Missing}
 use Rattle.board.specs.declared.Ticked.{Ticked}
-use Rattle.board.specs.Calls.{toldOf, tickedOf, missingOf}
+use Rattle.board.specs.declared.Written.{Written}
+use Rattle.board.specs.Calls.{toldOf, tickedOf, missingOf, writtenOf}
 
 -- ---- the message call
 
@@ -41,3 +44,11 @@ questionBack t = record { number = t .number; «open» = t .«open»; sender = t
 
 pub question-same : (a : by-value-missing.Missing) → questionBack (missingOf a) ≡ questionTold a
 question-same a = refl
+
+-- ---- writing a fault section
+
+abbrev writtenBack : Written → WritingTold
+writtenBack t = record { number = t .number; length = t .length }
+
+pub written-same : (w : Writing) → writtenBack (writtenOf w) ≡ writingTold w
+written-same w = refl

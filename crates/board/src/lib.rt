@@ -41,3 +41,17 @@ pub struct Cutting {
     pub number: u8,
     pub length: u16,
 }
+
+// Where a section's options stand in it: `length` octets from `start` on, both 0 where there are none.
+#[repr(C)]
+pub struct Options {
+    pub start: usize,
+    pub length: usize,
+}
+
+// What writing a section answers: its length is 0 on a refusal.
+#[repr(C)]
+pub struct Written {
+    pub number: u8,
+    pub length: u16,
+}

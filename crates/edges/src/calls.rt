@@ -11,6 +11,7 @@ use edges_calls::field_call;
 use edges_calls::held_call;
 use edges_calls::part_call;
 use edges_calls::question_call;
+use edges_fault::fault_call;
 use edges_lines::calls::call_line;
 use edges_lines::calls::clock_line;
 use edges_lines::calls::message_line;
@@ -72,7 +73,7 @@ pub(crate) fn look<'a>(w: Receiver, storage: &'a [u8], field: &'a [u8]) {
         b'K' => cut_call(from(field, HEAD)),
         b'R' => part_call(storage, from(field, HEAD)),
         b'F' => field_call(from(field, HEAD)),
-        _ => (),
+        _ => fault_call(tag, from(field, HEAD)),
     }
 }
 

@@ -21,6 +21,18 @@ pub fn title(octets: &[u8]) {
 
 // A letter and numbers, one blank between.
 pub fn line(letter: u8, numbers: &[u64]) {
+    words(letter, numbers);
+    io::write_all(1, b"\n");
+}
+
+// The same, and behind them eight octets.
+pub fn line_with_eight(letter: u8, numbers: &[u64], octets: &[u8]) {
+    words(letter, numbers);
+    eight(octets);
+    io::write_all(1, b"\n");
+}
+
+fn words(letter: u8, numbers: &[u64]) {
     io::write_all(1, &[letter]);
     let mut i = 0;
     while i < numbers.len() {
@@ -28,7 +40,6 @@ pub fn line(letter: u8, numbers: &[u64]) {
         io::print_decimal(1, numbers[i]);
         i += 1;
     }
-    io::write_all(1, b"\n");
 }
 
 // The same, of the first 64 octets.

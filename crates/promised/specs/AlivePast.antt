@@ -8,7 +8,7 @@ use lib.Dec.{ltb}
 use Rattle.signal.specs.Alive.{bodyOf}
 use Rattle.state.specs.declared.Address.{Address}
 use Rattle.state.specs.Limits.{clockMost}
-use Rattle.promised.specs.Judged.{hasLength, isAlive, hasBody, sentFrom}
+use Rattle.promised.specs.Judged.{hasLength, isAlive, hasBody, hasSection, sentFrom}
 use Rattle.rules.specs.pasts.Past.{Event, message, alive, clock, aside}
 
 -- ---- time
@@ -39,9 +39,10 @@ clockTimes t (aside call ∷ es) = clockTimes t es
 -- ---- signals
 
 -- "An alive PDU is 128 to 1,472 octets, its length equal to BSIZE and ML, CBN = TBN = 1, code 60,003, group 0, layout
--- by 5.3. …", from this address: none of 12, 13 and 22 applies to it. "No number check."
+-- by 5.3. …", with a fault section behind it or none, from this address: none of 12, 13, 22 and 24 applies to it. "No
+-- number check."
 unfoldable pub isSignal : Address → List ℕ → Bool
-isSignal a packet = hasLength 128 1472 packet && isAlive packet && hasBody packet && sentFrom a packet
+isSignal a packet = hasLength 128 1472 packet && isAlive packet && hasBody packet && hasSection packet && sentFrom a packet
 
 -- ---- who is alive
 

@@ -27,8 +27,8 @@ use Rattle.answers.specs.declared.Noted.{Noted}
 use Rattle.rules.specs.calls.Admit.{fills, senderAfter, admitted}
 use Rattle.rules.specs.calls.Alive.{aliveRows, heardBy, aliveAnswer}
 use Rattle.rules.specs.calls.AliveLaws.{alive-facts}
-use Rattle.promised.specs.Judged.{hasLength, isAlive, hasBody}
-use Rattle.promised.specs.JudgedLaws.{alive-length, alive-head, alive-body}
+use Rattle.promised.specs.Judged.{hasLength, isAlive, hasBody, hasSection}
+use Rattle.promised.specs.JudgedLaws.{alive-length, alive-head, alive-body, alive-section}
 use Rattle.promised.specs.AlivePast.{backOrAbove, movedBy, timeAfter, clockTimes, isSignal, AliveBy}
 use Rattle.rules.specs.calls.ChangesLaws.{message-only, alive-only}
 use Rattle.rules.specs.calls.Clock.{dies, aged}
@@ -100,18 +100,22 @@ module _ (a : Address) (packet : List ℕ) where
   abbrev body : Bool
   body = hasBody packet
 
+  abbrev section : Bool
+  section = hasSection packet
+
   abbrev own : Bool
   own = sameAddress a (source h)
 
   pub signal-own : isSignal a packet ≡ true → own ≡ true
   unfolding isSignal
-  signal-own = and-right (short && head && body) own
+  signal-own = and-right (short && head && body && section) own
 
   -- From a registered sender it meets no number.
   pub signal-none : (w : Receiver) → isSignal a packet ≡ true → valid w ≡ true → found w h < w .count → first (aliveRows w packet) ≡ 0
   unfolding isSignal aliveRows first
   signal-none w e ok here =
-      let e3 = and-left (short && head && body) own e in
+      let e4 = and-left (short && head && body && section) own e in
+      let e3 = and-left (short && head && body) section e4 in
       let e2 = and-left (short && head) body e3 in
       rw (
         ok,
@@ -122,6 +126,8 @@ module _ (a : Address) (packet : List ℕ) where
         lt-leb (w .count) (found w h) here,
         alive-body packet,
         and-right (short && head) body e3,
+        alive-section packet,
+        and-right (short && head && body) section e4,
       )
 
   -- A packet that meets no number, and is no signal from this address, is from another.
@@ -130,7 +136,7 @@ module _ (a : Address) (packet : List ℕ) where
   heeded-other w e none =
       let f = alive-facts w packet none in
       let long : short ≡ true = not-false short (sym (alive-length packet) ∙ f .length-right) in
-      rw (long, sym (alive-head packet) ∙ f .head-within, sym (alive-body packet) ∙ f .within) at e
+      rw (long, sym (alive-head packet) ∙ f .head-within, sym (alive-body packet) ∙ f .within, sym (alive-section packet) ∙ f .fault-within) at e
 
 -- ---- each call, for the sender at place i
 

@@ -1,12 +1,13 @@
 -- What a PDU is judged by before its sender is looked at, in 01's words and numbers.
 use Prim.Native.Nat.{ℕ, _%_}
-use mathlib.Core.Bool.{Bool, _&&_}
+use mathlib.Core.Bool.{Bool, _&&_, _||_}
 use mathlib.Core.List.{List}
 use lib.Dec.{eqb, leb}
-use lib.ListN.{length}
+use lib.ListN.{length, drop}
 use Rattle.header.specs.Codes.{within}
 use Rattle.header.specs.Head.{headOf, isFixed}
 use Rattle.signal.specs.Alive.{bodyOf}
+use Rattle.fault.specs.Reading.{isSection}
 use Rattle.state.specs.declared.Address.{Address}
 use Rattle.state.specs.Limits.{sameAddress}
 use Rattle.state.specs.Table.{source}
@@ -44,3 +45,8 @@ abbrev pub hasBody : List ℕ → Bool
 hasBody packet =
     eqb (headOf packet .cut .ml) (length packet) && eqb (headOf packet .cut .cbn) 1 && eqb (headOf packet .cut .tbn) 1
     && eqb (headOf packet .given .da % 65536) 0 && eqb (bodyOf packet .protocol) 4 && eqb (bodyOf packet .ver) 1 && within 1 3 (bodyOf packet .mode)
+
+-- 02, Item 2: "The section ends the PDU exactly, or is absent in a PDU of 128 octets": behind these stand the octets of a
+-- section within the rules, `SectionOf`, and nothing else.
+abbrev pub hasSection : List ℕ → Bool
+hasSection packet = eqb (length packet) 128 || isSection (drop 128 packet)

@@ -12,9 +12,9 @@ use Rattle.header.specs.Codes.{within}
 use Rattle.header.specs.CodesLaws.{user-within, alive-only}
 use Rattle.header.specs.Head.{headOf, lengthOutside}
 use Rattle.signal.specs.Alive.{bodyOf, isBody}
-use Rattle.rules.specs.calls.Alive.{aliveLengthWrong, aliveHeadWithin, aliveWithin}
+use Rattle.rules.specs.calls.Alive.{aliveLengthWrong, aliveHeadWithin, aliveWithin, faultWithin}
 use Rattle.rules.specs.calls.Message.{lengthWrong, headWithin}
-use Rattle.promised.specs.Judged.{hasLength, isMessage, inOrder, isAlive, hasBody}
+use Rattle.promised.specs.Judged.{hasLength, isMessage, inOrder, isAlive, hasBody, hasSection}
 
 not-below : (a b : ℕ) → ltb a b ≡ not (leb b a)
 not-below a b = ⊎-elim (λ h. rw (lt-ltb a b h, lt-leb b a h)) (λ h. rw (le-ltb a b h, le-leb b a h)) (lt-or-le a b)
@@ -62,3 +62,7 @@ alive-body packet =
     let h = headOf packet in
     apart (eqb (h .cut .ml) (length packet) && eqb (h .cut .cbn) 1 && eqb (h .cut .tbn) 1 && eqb (h .given .da % 65536) 0)
     (eqb (bodyOf packet .protocol) 4) (eqb (bodyOf packet .ver) 1) (within 1 3 (bodyOf packet .mode))
+
+pub alive-section : (packet : List ℕ) → faultWithin packet ≡ hasSection packet
+unfolding faultWithin
+alive-section packet = refl

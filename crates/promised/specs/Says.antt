@@ -20,7 +20,7 @@ use Rattle.rules.specs.calls.First.{Row, row, first}
 use Rattle.rules.specs.calls.Setup.{setupWithin}
 use Rattle.rules.specs.pasts.Past.{Event, message, alive, clock, aside, question}
 use Rattle.promised.specs.Join.{kinOf, numberIn, behind}
-use Rattle.promised.specs.Judged.{hasLength, isMessage, isAlive, hasBody}
+use Rattle.promised.specs.Judged.{hasLength, isMessage, isAlive, hasBody, hasSection}
 use Rattle.promised.specs.Log.{ToldOf, Exchange, exchange, Name, noName, nameOf, timeOf, deliveries, lastOf, sameMessage, acceptedWith, openOf, isOpen, stampOf, Life, lifeOf}
 
 -- ---- the senders
@@ -149,6 +149,8 @@ aliveSays q packet = first (
     ∷ row 14 (leb (length (sendersOf q)) (placeOf (sendersOf q) (source (headOf packet))))
     -- "alive ML, CBN, TBN, group or body wrong"
     ∷ row 22 (not (hasBody packet))
+    -- 02, Item 2: "24 for a fault section that breaks these rules, after 22"
+    ∷ row 24 (not (hasSection packet))
     ∷ [])
 
 -- ---- the clock call

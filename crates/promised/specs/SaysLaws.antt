@@ -32,7 +32,7 @@ use Rattle.rules.specs.calls.QuestionLaws.{Held, all-held, question-none, quest
 use Rattle.rules.specs.calls.Setup.{setupWithin}
 use Rattle.rules.specs.pasts.Past.{World, message, clock}
 use Rattle.promised.specs.AgreesLaws.{Agrees}
-use Rattle.promised.specs.JudgedLaws.{alive-length, alive-head, alive-body}
+use Rattle.promised.specs.JudgedLaws.{alive-length, alive-head, alive-body, alive-section}
 use Rattle.promised.specs.KeptLaws.{alive-number}
 use Rattle.promised.specs.Join.{numberIn}
 use Rattle.promised.specs.JoinLaws.{kinIn, Fine}
@@ -121,7 +121,7 @@ module _ (q : Setup) (log : List Exchange) (w : World) (a : Agrees q log w) wher
   unfolding aliveRows aliveSays first
   alive-says packet =
       alive-number (w .state) packet
-      ∙ rw (a .sound .is-valid, alive-length packet, alive-head packet, alive-body packet, place-is (source (headOf packet)) packet refl, a .count)
+      ∙ rw (a .sound .is-valid, alive-length packet, alive-head packet, alive-body packet, alive-section packet, place-is (source (headOf packet)) packet refl, a .count)
 
   -- ---- the clock call
 

@@ -4,11 +4,17 @@
 -- ours do is shown by the functions of src/.
 use Prim.Native.Nat.{ℕ, _*_}
 use mathlib.Core.Path.{_≡_}
+use mathlib.Core.Bool.{Bool}
 use mathlib.Core.List.{List, [], _∷_}
 use lib.ListN.{length}
 use Rattle.header.specs.declared.Given.{Given}
 use Rattle.cut.specs.declared.cutter.Cutting.{Cutting}
 use Rattle.cut.specs.Cutter.{cutterAnswer, cutterBuffer}
+use Rattle.fault.specs.declared.Error.{Error}
+use Rattle.fault.specs.declared.reading.Report.{Report}
+use Rattle.fault.specs.declared.writing.Writing.{Writing}
+use Rattle.fault.specs.Reading.{readingOf, deadAt, errorAt, optionsOf}
+use Rattle.fault.specs.Writing.{writingOf, bufferOf}
 use Rattle.state.specs.declared.Receiver.{Receiver}
 use Rattle.state.specs.Held.{heldAt}
 use Rattle.answers.specs.declared.Answer.{Answer}
@@ -78,6 +84,35 @@ pub record HeldMeets (w : World) (place held : ℕ) : Type 0 where
 pub record CutterMeets (g : Given) (m : List ℕ) (u c : ℕ) (buffer : List ℕ) (r : Cutting) (left : List ℕ) : Type 0 where
   pub answered : r ≡ cutterAnswer g m u c (length buffer)
   pub written : left ≡ cutterBuffer g m u c buffer
+
+-- 02, Item 2: nor do the calls of the fault section, which are given no state.
+pub record ReadMeets (s : List ℕ) (r : Report) : Type 0 where
+  pub answered : r ≡ readingOf s
+
+pub record DeadMeets (s : List ℕ) (k : ℕ) (dead : Bool) : Type 0 where
+  pub answered : dead ≡ deadAt s k
+
+pub record ErrorMeets (s : List ℕ) (k : ℕ) (e : Error) : Type 0 where
+  pub answered : e ≡ errorAt s k
+
+pub record OptionsMeets (s part : List ℕ) : Type 0 where
+  pub handed-over : part ≡ optionsOf s
+
+-- What a section is written from: "the module count, the bits as a lent slice of L octets, the errors as lent 16-bit pairs,
+-- the name, the options".
+pub record Parts : Type 0 where
+  pub modules : ℕ
+  pub bits : List ℕ
+  pub numbers : List ℕ
+  pub name : List ℕ
+  pub options : List ℕ
+
+abbrev pub parts : ℕ → (bits numbers name options : List ℕ) → Parts
+parts modules bits numbers name options = record { modules = modules; bits = bits; numbers = numbers; name = name; options = options }
+
+pub record WriteMeets (p : Parts) (buffer : List ℕ) (r : Writing) (left : List ℕ) : Type 0 where
+  pub answered : r ≡ writingOf (p .modules) (p .bits) (p .numbers) (p .options) (length buffer)
+  pub written : left ≡ bufferOf (p .modules) (p .bits) (p .numbers) (p .name) (p .options) buffer
 
 -- ---- a course
 

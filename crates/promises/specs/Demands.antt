@@ -5,13 +5,16 @@
 --
 -- Of demand 1, "Nothing is read or written outside what was lent, and every call ends" is what the proof of every
 -- function shows, contract or not.
-use Prim.Native.Nat.{ℕ, _≤_, _<_}
+use Prim.Native.Nat.{ℕ, _+_, _*_, _≤_, _<_}
 use mathlib.Core.Path.{_≡_}
 use mathlib.Core.Logic.{_≢_}
-use mathlib.Core.Bool.{true, not, cond}
-use mathlib.Core.List.{List, [], _∷_, map, List·Memᴰ}
+use mathlib.Core.Bool.{Bool, true, false, not, cond}
+use mathlib.Core.List.{List, [], _∷_, _++_, map, List·Memᴰ}
 use lib.Count.{ones}
-use lib.ListN.{length, take}
+use lib.Dec.{ltb}
+use lib.ListN.{length, take, drop, getD}
+use lib.Pow.{areBytes}
+use Rattle.octets.specs.Run.{run}
 use Rattle.ring.specs.Printed.{CheckAsPrinted}
 use Rattle.header.specs.declared.Given.{Given}
 use Rattle.header.specs.Head.{headOf}
@@ -20,6 +23,13 @@ use Rattle.cut.specs.declared.cutter.Cutting.{Cutting}
 use Rattle.cut.specs.Cutter.{Words, cuts, cutterTold}
 use Rattle.cut.specs.Edges.{all, edges}
 use Rattle.cut.specs.Printed.{Limits, CutsAsPrinted, PossibleAsPrinted}
+use Rattle.fault.specs.declared.Error.{Error}
+use Rattle.fault.specs.declared.reading.Report.{Report}
+use Rattle.fault.specs.declared.writing.Writing.{Writing}
+use Rattle.fault.specs.Edges as fault-edges
+use Rattle.fault.specs.Reading.{isSection, report, refused as unread, noError}
+use Rattle.fault.specs.Section.{Section, isDead, bitsSize, bitsOf, numbersOf, octetsOf, isWithin, SectionOf}
+use Rattle.fault.specs.Writing.{sizeGiven, keepsRules, writingTold}
 use Rattle.state.specs.Limits.{given}
 use Rattle.state.specs.State.{emptyReceiver, senderAt}
 use Rattle.state.specs.Table.{source}
@@ -44,7 +54,7 @@ use Rattle.promised.specs.Says.{sendersOf, placeOf, heldSays, says, logOf}
 use Rattle.promises.specs.AsPrinted.{CuttingAsPrinted}
 use Rattle.promises.specs.Board.{BoardBegins, BoardIsCourse}
 use Rattle.promises.specs.Counted.{TalliedIsCourse, OneCounted, AllCounted}
-use Rattle.promises.specs.Course.{Meets, Course, SetupMeets, HeldMeets, CutterMeets}
+use Rattle.promises.specs.Course.{Meets, Course, SetupMeets, HeldMeets, CutterMeets, ReadMeets, DeadMeets, ErrorMeets, OptionsMeets, Parts, WriteMeets}
 
 -- ---- demand 1
 
@@ -225,6 +235,84 @@ DifferMeetsNine = (w : World) (i : ℕ) → i < w .state .count
     s .«open» ≡ true → s .message .held ≢ ones (s .message .map)
     → (e : Event) (r : Said e) (v : World) → Meets w e r v → RefusedWith e r 9
 
+-- ---- 02, Item 2: the fault section
+
+-- "Refusals: 24 for a fault section that breaks these rules, … read or written; 23 for a short buffer", 23 first.
+abbrev pub ReadRefuses : Type 0
+ReadRefuses = (s : List ℕ) (r : Report) → ReadMeets s r → Refuses (row 24 (not (isSection s)) ∷ []) (r .number) (λ k. r ≡ unread)
+
+abbrev pub WriteRefuses : Type 0
+WriteRefuses = (p : Parts) (buffer : List ℕ) (r : Writing) (left : List ℕ) → WriteMeets p buffer r left
+    → let size = sizeGiven (p .modules) (p .numbers) (p .options) in
+    Refuses (row 23 (ltb (length buffer) size) ∷ row 24 (not (keepsRules size (p .modules) (p .bits) (p .numbers))) ∷ []) (writingTold r .number)
+    (λ k. (writingTold r .length ≡ 0) × (left ≡ buffer))
+
+-- A section is accepted, and nothing else: both directions. What is read from it is what it says.
+abbrev pub ReadsExactly : Type 0
+ReadsExactly = (s : List ℕ) (r : Report) → ReadMeets s r → (r .number ≡ 0 → SectionOf s) × (SectionOf s → r .number ≡ 0)
+
+pub record ReadBack (x : Section) : Type 0 where
+  pub counts : (r : Report) → ReadMeets (octetsOf x) r → r ≡ report x
+  pub modules : (k : ℕ) (b : Bool) → DeadMeets (octetsOf x) k b → b ≡ isDead x k
+  pub errors : (k : ℕ) (e : Error) → ErrorMeets (octetsOf x) k e → e ≡ getD (x .errors) k noError
+  pub options : (part : List ℕ) → OptionsMeets (octetsOf x) part → part ≡ x .options
+
+abbrev pub ReadsAll : Type 0
+ReadsAll = (x : Section) → isWithin x ≡ true → ReadBack x
+
+-- What is given is of its types, and is this section's.
+pub record OfTypes (p : Parts) : Type 0 where
+  pub bits-octets : areBytes (p .bits) ≡ true
+  pub name-octets : (length (p .name) ≡ 8) × (areBytes (p .name) ≡ true)
+  pub options-octets : areBytes (p .options) ≡ true
+
+pub record PartsOf (x : Section) (p : Parts) : Type 0 where
+  pub modules : p .modules ≡ length (x .dead)
+  pub bits : p .bits ≡ bitsOf (x .dead)
+  pub numbers : p .numbers ≡ numbersOf (x .errors)
+  pub name : p .name ≡ x .name
+  pub options : p .options ≡ x .options
+
+-- It was written, and "Octets behind the section stay".
+pub record WrittenAs (octets buffer : List ℕ) (r : Writing) (left : List ℕ) : Type 0 where
+  pub told : writingTold r ≡ record { number = 0; length = length octets }
+  pub begins : left ≡ octets ++ drop (length octets) buffer
+
+-- What is written is a section within the rules that has these parts, so that "Reading gives back what was written";
+abbrev pub WritesSections : Type 0
+WritesSections = (p : Parts) → OfTypes p → (buffer : List ℕ) (r : Writing) (left : List ℕ) → WriteMeets p buffer r left
+    → writingTold r .number ≡ 0 → (x : Section) × (isWithin x ≡ true) × PartsOf x p × WrittenAs (octetsOf x) buffer r left
+
+-- and every such section is written, where it has room.
+abbrev pub WritesAll : Type 0
+WritesAll = (x : Section) → isWithin x ≡ true → (p : Parts) → PartsOf x p
+    → (buffer : List ℕ) (r : Writing) (left : List ℕ) → WriteMeets p buffer r left → length (octetsOf x) ≤ length buffer
+    → WrittenAs (octetsOf x) buffer r left
+
+-- "writing what was read gives the same octets": the counts, the name and the options as they were told, the bits as they
+-- stand in the section, and the errors one by one.
+pub record ReadFrom (s : List ℕ) (r : Report) (p : Parts) : Type 0 where
+  pub modules : p .modules ≡ r .modules
+  pub bits : p .bits ≡ run 4 (bitsSize (r .modules)) s
+  pub numbers : length (p .numbers) ≡ 2 * r .errors
+  pub errors : (k : ℕ) (e : Error) → k < r .errors → ErrorMeets s k e
+      → (getD (p .numbers) (2 * k) 0 ≡ e .«module») × (getD (p .numbers) (2 * k + 1) 0 ≡ e .error)
+  pub name : p .name ≡ r .name
+  pub options : OptionsMeets s (p .options)
+
+abbrev pub WritesSame : Type 0
+WritesSame = (s : List ℕ) (r : Report) → ReadMeets s r → r .number ≡ 0 → (p : Parts) → ReadFrom s r p
+    → (buffer : List ℕ) (a : Writing) (left : List ℕ) → WriteMeets p buffer a left → length s ≤ length buffer
+    → WrittenAs s buffer a left
+
+-- "129 to 147 octets of PDU are 24": nothing shorter than 20 octets is a section.
+abbrev pub NoneShort : Type 0
+NoneShort = (s : List ℕ) → length s < 20 → isSection s ≡ false
+
+-- The table of edges.
+abbrev pub EveryFaultEdge : Type 0
+EveryFaultEdge = fault-edges.all fault-edges.edges ≡ true
+
 -- ---- uniqueness, and the edges
 
 -- "Uniqueness is itself proved": of two programs, or of one that runs twice, the same calls get the same answers and
@@ -239,6 +327,18 @@ OneStart = (q : Setup) (r t : Started) (w u : World) → SetupMeets q r w → Se
 abbrev pub OneCutting : Type 0
 OneCutting = (g : Given) (m : List ℕ) (u c : ℕ) (buffer : List ℕ) (r t : Cutting) (left right : List ℕ)
     → CutterMeets g m u c buffer r left → CutterMeets g m u c buffer t right → (r ≡ t) × (left ≡ right)
+
+-- The fault section is read and written in one way.
+abbrev pub OneReading : Type 0
+OneReading = (s : List ℕ)
+    → ((r t : Report) → ReadMeets s r → ReadMeets s t → r ≡ t)
+    × ((k : ℕ) (a b : Bool) → DeadMeets s k a → DeadMeets s k b → a ≡ b)
+    × ((k : ℕ) (e f : Error) → ErrorMeets s k e → ErrorMeets s k f → e ≡ f)
+    × ((part other : List ℕ) → OptionsMeets s part → OptionsMeets s other → part ≡ other)
+
+abbrev pub OneWriting : Type 0
+OneWriting = (p : Parts) (buffer : List ℕ) (r t : Writing) (left right : List ℕ) → WriteMeets p buffer r left → WriteMeets p buffer t right
+    → (r ≡ t) × (left ≡ right)
 
 -- "Proved together as one table with one claim over it (*)"
 abbrev pub EveryEdge : Type 0
@@ -278,6 +378,17 @@ pub record Demands : Type 0 where
   pub held-said : HeldSaid
   pub held-is-ones : HeldIsOnes
   pub differ-meets-nine : DifferMeetsNine
+  pub read-refuses : ReadRefuses
+  pub write-refuses : WriteRefuses
+  pub reads-exactly : ReadsExactly
+  pub reads-all : ReadsAll
+  pub writes-sections : WritesSections
+  pub writes-all : WritesAll
+  pub writes-same : WritesSame
+  pub none-short : NoneShort
+  pub every-fault-edge : EveryFaultEdge
+  pub one-reading : OneReading
+  pub one-writing : OneWriting
   pub one-course : OneCourse
   pub one-start : OneStart
   pub one-cutting : OneCutting

@@ -3,6 +3,7 @@ use Rattle.ring.specs.PrintedLaws as check
 use Rattle.header.specs.PrintedLaws as header
 use Rattle.cut.specs.Edges as edges
 use Rattle.cut.specs.PrintedLaws as cut
+use Rattle.fault.specs.Edges as fault-edges
 use Rattle.rules.specs.pasts.ListingsLaws as listings
 use Rattle.promises.specs.AsPrintedLaws as printed
 use Rattle.promises.specs.BoardLaws as board
@@ -11,6 +12,7 @@ use Rattle.promises.specs.CountedLaws as counted
 use Rattle.promises.specs.CourseLaws as course
 use Rattle.promises.specs.Demands.{Demands}
 use Rattle.promises.specs.DemandsLaws as laws
+use Rattle.promises.specs.FaultLaws as fault
 
 pub kept : Demands
 kept = record {
@@ -41,6 +43,17 @@ kept = record {
   held-said = laws.held-said;
   held-is-ones = laws.held-is-ones;
   differ-meets-nine = laws.differ-meets-nine;
+  read-refuses = fault.read-refuses;
+  write-refuses = fault.write-refuses;
+  reads-exactly = fault.reads-exactly;
+  reads-all = fault.reads-all;
+  writes-sections = fault.writes-sections;
+  writes-all = fault.writes-all;
+  writes-same = fault.writes-same;
+  none-short = fault.none-short;
+  every-fault-edge = fault-edges.every-edge;
+  one-reading = fault.one-reading;
+  one-writing = fault.one-writing;
   one-course = course.same-course;
   one-start = course.same-start;
   one-cutting = course.same-cutting;

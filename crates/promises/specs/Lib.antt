@@ -7,6 +7,7 @@ pub mod Board
 pub mod BoardLaws
 pub mod CountedLaws
 pub mod Demands
+pub mod FaultLaws
 pub mod DemandsLaws
 pub mod ComesBackLaws
 pub mod Kept

@@ -9,6 +9,8 @@ ghost use mathlib.Core.List.{List};
 ghost use Prim.Native.Nat.{ℕ, _*_};
 ghost use lib.ListN.{length};
 ghost use Rattle.cut.specs.Cutter.{cutterAnswer, cutterBuffer};
+ghost use Rattle.fault.specs.Reading.{readingOf, deadAt, errorAt, optionsOf};
+ghost use Rattle.fault.specs.Writing.{writingOf, bufferOf};
 ghost use Rattle.state.specs.Held.{heldAt};
 ghost use Rattle.rules.specs.calls.Alive.{aliveAnswer};
 ghost use Rattle.rules.specs.calls.Clock.{clockAnswer};
@@ -22,7 +24,7 @@ ghost use Rattle.tally.specs.Tally.{counted as countedOf};
 ghost use Rattle.words.specs.Words.{wordsMost, stateIn, leftBy};
 ghost use Rattle.board.specs.Calls.{setupFor, setupWords, messageFor, storageFor, tallyFor, aliveFor, clockFor, questionFor, heldFor};
 ghost use Rattle.promises.specs.Board.{board, worldOf, BoardMeets, BoardStarts};
-ghost use Rattle.promises.specs.Course.{world, messagesOf, Leads, SetupMeets, MessageMeets, TallyMeets, PartMeets, AliveMeets, ClockMeets, QuestionMeets, HeldMeets, CutterMeets};
+ghost use Rattle.promises.specs.Course.{world, messagesOf, Leads, SetupMeets, MessageMeets, TallyMeets, PartMeets, AliveMeets, ClockMeets, QuestionMeets, HeldMeets, CutterMeets, ReadMeets, DeadMeets, ErrorMeets, OptionsMeets, parts, WriteMeets};
 use answers::Answer;
 use answers::Missing;
 use answers::Noted;
@@ -39,6 +41,12 @@ use board_question::adp_question;
 use board_setup::adp_setup;
 use board_tallied::adp_message_tallied;
 use cut::cutter::Cutting;
+use fault::Error;
+use fault::NAME;
+use fault::reading;
+use fault::reading::Report;
+use fault::writing;
+use fault::writing::Writing;
 use header::Given;
 use state::Receiver;
 use tally::Tally;
@@ -122,6 +130,51 @@ pub fn cutter(given: Given, message: &[u8], u: u16, piece: u8, buffer: &mut [u8]
     ensures meets { λ r. ⌜ CutterMeets given (now (message .entry)) u piece (now (buffer .entry)) r (now (buffer .exit)) ⌝ }
 {
     cut::cutter::cutter(given, message, u, piece, buffer)
+}
+
+// ---- the fault section
+
+pub fn read_section(s: &[u8]) -> Report
+    ensures answer { λ r. ⌜ r ≡ readingOf (now (s .entry)) ⌝ }
+    ensures meets { λ r. ⌜ ReadMeets (now (s .entry)) r ⌝ }
+{
+    reading::read_section(s)
+}
+
+pub fn is_dead(s: &[u8], x: u32) -> bool
+    ensures answer { λ r. ⌜ r ≡ deadAt (now (s .entry)) x ⌝ }
+    ensures meets { λ r. ⌜ DeadMeets (now (s .entry)) x r ⌝ }
+{
+    reading::is_dead(s, x)
+}
+
+pub fn error_at(s: &[u8], k: u32) -> Error
+    ensures answer { λ r. ⌜ r ≡ errorAt (now (s .entry)) k ⌝ }
+    ensures meets { λ r. ⌜ ErrorMeets (now (s .entry)) k r ⌝ }
+{
+    reading::error_at(s, k)
+}
+
+pub fn options(s: &[u8]) -> &[u8]
+    ensures answer { λ r. ⌜ now r ≡ optionsOf (now (s .entry)) ⌝ }
+    ensures meets { λ r. ⌜ OptionsMeets (now (s .entry)) (now r) ⌝ }
+{
+    reading::options(s)
+}
+
+pub fn write_section(
+    modules: u32,
+    bits: &[u8],
+    errors: &[u16],
+    name: [u8; NAME],
+    options: &[u8],
+    buffer: &mut [u8],
+) -> Writing
+    ensures answer { λ r. ⌜ r ≡ writingOf modules (now (bits .entry)) (now (errors .entry)) (now (options .entry)) (length (now (buffer .entry))) ⌝ }
+    ensures written { λ _. ⌜ now (buffer .exit) ≡ bufferOf modules (now (bits .entry)) (now (errors .entry)) name (now (options .entry)) (now (buffer .entry)) ⌝ }
+    ensures meets { λ r. ⌜ WriteMeets (parts modules (now (bits .entry)) (now (errors .entry)) name (now (options .entry))) (now (buffer .entry)) r (now (buffer .exit)) ⌝ }
+{
+    writing::write_section(modules, bits, errors, name, options, buffer)
 }
 
 // ---- the calls for C

@@ -3,6 +3,7 @@
 
 use super::table::values_of;
 use crate::cut::HeaderValues;
+use crate::fault::Parts;
 use crate::state::{Receiver, Sender, Setup, SENDERS_MOST};
 
 /// Numbers behind one another, each in so many octets.
@@ -93,6 +94,28 @@ pub fn cut(
 pub fn part(kind: u8, start: u64, length: u64, packet: &[u8], lent: usize) -> Vec<u8> {
     let before = numbers(&[(1, kind.into()), (8, start), (8, length), (4, lent as u64)]);
     [&before, packet].concat()
+}
+
+/// "module X (4), then the octets" and "index k (4), then the octets".
+pub fn of_one(number: u32, octets: &[u8]) -> Vec<u8> {
+    [&number.to_be_bytes(), octets].concat()
+}
+
+/// "length of the buffer (2), module count (4), how many octets of bits (2), the
+/// bits, how many 16-bit numbers (2), these numbers (2 each), the name (8), then
+/// the options, which are all the rest".
+pub fn section(parts: &Parts, buffer: usize) -> Vec<u8> {
+    let mut contents = numbers(&[
+        (2, buffer as u64),
+        (4, parts.modules.into()),
+        (2, parts.bits.len() as u64),
+    ]);
+    contents.extend(parts.bits);
+    contents.extend(numbers(&[(2, parts.errors.len() as u64)]));
+    contents.extend(parts.errors.iter().flat_map(|number| number.to_be_bytes()));
+    contents.extend(parts.name);
+    contents.extend(parts.options);
+    contents
 }
 
 #[cfg(test)]

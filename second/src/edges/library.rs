@@ -128,7 +128,7 @@ impl Library {
         self.message(&nobody);
         let lent = self.dice.one_of(&[1, AREA, SENDERS_MOST * AREA]);
         self.past.message_lent(lent, &nobody);
-        let signal = scenes::alive_pdu(&mut self.dice, (1, 7), 1, 60, 128);
+        let signal = scenes::alive_pdu(&mut self.dice, (1, 7), 1, 60, &[]);
         self.alive(&signal);
         let ms = self.dice.below(1_000);
         scenes::tick(self, ms);

@@ -6,10 +6,13 @@
 //! and the numbers of each call are those of its rows. Random calls come besides.
 
 mod alive_and_clock;
+mod alive_sections;
 mod calls;
 mod clauses;
 mod cutting;
 mod damage;
+mod fault_calls;
+mod fault_scenes;
 mod joining;
 mod library;
 mod many_senders;
@@ -19,8 +22,12 @@ mod parts_and_fields;
 mod past;
 mod pdu;
 pub mod random;
+mod reading;
+mod section;
+mod section_rows;
 mod single;
 mod table;
+mod writing;
 
 use past::Past;
 
@@ -39,9 +46,12 @@ fn every_section() -> Past {
     single::sections(&mut past);
     joining::sections(&mut past);
     alive_and_clock::sections(&mut past);
+    alive_sections::sections(&mut past);
     damage::sections(&mut past);
     many_senders::sections(&mut past);
     cutting::sections(&mut past);
     parts_and_fields::sections(&mut past);
+    reading::sections(&mut past);
+    writing::sections(&mut past);
     past
 }

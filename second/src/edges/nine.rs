@@ -125,10 +125,11 @@ impl Call {
 }
 
 /// The numbers that can be given beside 9.
-const OTHERS: [u8; 12] = [11, 12, 13, 14, 15, 16, 17, 18, 19, 20, 21, 22];
+const OTHERS: [u8; 13] = [11, 12, 13, 14, 15, 16, 17, 18, 19, 20, 21, 22, 24];
 
 /// A call that is refused at the good state too. (Not each can be made at each
-/// state: a test node has no 15.)
+/// state: a test node has no 15. Nor is each section that is broken at random
+/// refused with 24.)
 fn together(library: &mut Library, clause: &Clause, busy: &Busy, number: u8) {
     let call = refused_with(library, busy, number);
     let number = call.number_at(&library.past.receiver);
@@ -151,6 +152,7 @@ fn refused_with(library: &mut Library, busy: &Busy, number: u8) -> Call {
         },
         21 => Call::Clock(wrong_time(library)),
         22 => wrong_signal(library, busy, number),
+        24 => Call::Alive(scenes::broken_alive(library, busy.at, 1, 60)),
         12..=14 if signal => wrong_signal(library, busy, number),
         _ => Call::Message {
             lent: library.storage(),

@@ -1,7 +1,9 @@
 //! Scenes that a capture cannot show: all senders at once, storage of another
-//! length, the cutter, parts, kept counts, and states that no past leaves.
+//! length, the cutter, parts, fault sections, kept counts, and states that no past
+//! leaves.
 
 use super::cutting::cut_with;
+use super::fault_scenes::{sections_read, sections_written};
 use super::library::Library;
 use super::nine::damaged_states;
 use super::parts_and_fields::part_call;
@@ -17,7 +19,7 @@ use crate::state::{OpenMessage, Sender, Setup, AREA, SENDERS_MOST};
 pub type OwnScene = fn(&mut Library);
 
 /// The deck of them. A scene that stands twice is played twice as often.
-pub const OWN_SCENES: [OwnScene; 11] = [
+pub const OWN_SCENES: [OwnScene; 15] = [
     refused_counts,
     all_senders,
     all_senders,
@@ -25,6 +27,10 @@ pub const OWN_SCENES: [OwnScene; 11] = [
     cutter,
     parts,
     parts,
+    sections_read,
+    sections_read,
+    sections_written,
+    sections_written,
     never_looked_at,
     other_count,
     other_held,

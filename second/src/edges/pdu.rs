@@ -94,6 +94,15 @@ pub fn alive_sized(ml: u32, bsize: u16, lent: usize) -> Vec<u8> {
     alive_of(1, 7, 1, 60, ml, bsize, lent)
 }
 
+/// "alive_with(al_mode, section; laid)": ML and BSIZE are 128 and the section's
+/// octets, and the numbers are laid over all this.
+pub fn alive_with(al_mode: u32, section: &[u8], laid: &[Laid]) -> Vec<u8> {
+    let length = 128 + section.len();
+    let mut pdu = alive_of(1, 7, al_mode, 60, length as u32, length as u16, 128);
+    pdu.extend(section);
+    with(pdu, laid)
+}
+
 fn alive_of(
     field: u32,
     node: u32,
@@ -183,6 +192,10 @@ mod tests {
             assert_eq!(*octet, expected.map_or(0, |(_, octet)| *octet), "{at}");
         }
         assert_eq!(alive_sized(127, 127, 127).len(), 127);
+        let longer = alive_with(3, &[1, 2, 3], &[(9, 1, 2), (11, 1, 9), (87, 1, 40)]);
+        let longer = with(longer, &[(7, 1, 128), (59, 1, 128)]);
+        assert_eq!(longer, [&pdu[..], &[1, 2, 3]].concat());
+        assert_eq!(alive_with(1, &[0; 3], &[])[59], 131);
         assert_eq!(alive_sized(1_473, 1_473, 1_473)[128..], [0; 1_345]);
     }
 }

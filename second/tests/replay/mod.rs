@@ -4,6 +4,7 @@
 use second::alive::alive;
 use second::clock::clock;
 use second::cut::{cut_piece, HeaderValues};
+use second::fault::{self, Parts};
 use second::fields::{next_field, Next};
 use second::receiver::{message, part, question, Answer, Where};
 use second::state::{setup, OpenMessage, Receiver, Sender, Setup};
@@ -75,7 +76,13 @@ impl Replay {
             'K' => cut(Contents(contents)),
             'R' if tag == 'r' => self.damage_sender(Contents(contents)),
             'R' => self.part(Contents(contents)),
-            _ => field(contents),
+            'G' => section_read(contents),
+            'B' => module(Contents(contents)),
+            'L' => error_of(Contents(contents)),
+            'O' => options_of(contents),
+            'Z' => section_written(Contents(contents)),
+            'F' => field(contents),
+            _ => panic!("no such tag: {tag:?}"),
         };
         if !tag.is_lowercase() {
             self.lines.extend(line.lines().map(str::to_string));
@@ -252,4 +259,51 @@ fn field(octets: &[u8]) -> String {
             format!("F 3 {tag} {} {}", contents.len(), sum(contents))
         }
     }
+}
+
+fn section_read(octets: &[u8]) -> String {
+    let r = fault::read(octets);
+    let name = r.name.iter().map(|octet| format!(" {octet}"));
+    let name: String = name.collect();
+    format!(
+        "G {} {} {} {}{name}",
+        r.number, r.modules, r.errors, r.options
+    )
+}
+
+fn module(mut contents: Contents) -> String {
+    let module = contents.number(4) as u32;
+    format!("B {}", u8::from(fault::dead(contents.0, module)))
+}
+
+fn error_of(mut contents: Contents) -> String {
+    let index = contents.number(4) as u32;
+    let (module, error) = fault::error(contents.0, index);
+    format!("L {module} {error}")
+}
+
+fn options_of(octets: &[u8]) -> String {
+    let options = fault::options(octets);
+    format!("O {} {}", options.len(), sum(options))
+}
+
+fn section_written(mut contents: Contents) -> String {
+    let mut buffer = vec![170; contents.number(2) as usize];
+    let modules = contents.number(4) as u32;
+    let count = contents.number(2);
+    let bits: Vec<u8> = (0..count).map(|_| contents.number(1) as u8).collect();
+    let count = contents.number(2);
+    let errors: Vec<u16> = (0..count).map(|_| contents.number(2) as u16).collect();
+    let name = contents.number(8).to_be_bytes();
+    let parts = Parts {
+        modules,
+        bits: &bits,
+        errors: &errors,
+        name,
+        options: contents.0,
+    };
+    let written = fault::write(&parts, &mut buffer);
+    let (section, rest) = buffer.split_at(written.length);
+    let sums = format!("{} {}", sum(section), sum(rest));
+    format!("Z {} {} {sums}", written.number, written.length)
 }

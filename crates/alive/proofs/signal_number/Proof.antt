@@ -23,22 +23,77 @@ head-within-requires c κs = search needs
 
 returns-3 : tie.Need-returns-3
 unfolding first
-returns-3 c = simp (c .before .before .before .before .if1 .left, sym (c .before .before .before .length-outside .ensures) ∙ c .before .before .if2 .left, ap not (sym (c .before .head-within .ensures)) ∙ c .if3 .taken)
+returns-3 c =
+    let long = c .before .before in
+    simp (
+      long .before .before .if1 .left,
+      sym (long .before .length-outside .ensures) ∙ long .if2 .left,
+      ap not (sym (c .before .head-within .ensures)) ∙ c .if3 .taken,
+    )
 
 returns-4 : tie.Need-returns-4
 unfolding first
-returns-4 c = simp (c .before .before .before .before .before .if1 .left, sym (c .before .before .before .before .length-outside .ensures) ∙ c .before .before .before .if2 .left, ap not (sym (c .before .before .head-within .ensures)) ∙ c .before .if3 .left, le-leb _ _ (c .if4 .taken))
+returns-4 c =
+    let head = c .before in
+    let long = head .before .before in
+    simp (
+      long .before .before .if1 .left,
+      sym (long .before .length-outside .ensures) ∙ long .if2 .left,
+      ap not (sym (head .before .head-within .ensures)) ∙ head .if3 .left,
+      le-leb _ _ (c .if4 .taken),
+    )
 
 signal-within-requires : tie.Need-signal-within-requires
 signal-within-requires c κs = search needs
 
 returns-5 : tie.Need-returns-5
 unfolding first
-returns-5 c = simp (c .before .before .before .before .before .before .before .if1 .left, sym (c .before .before .before .before .before .before .length-outside .ensures) ∙ c .before .before .before .before .before .if2 .left, ap not (sym (c .before .before .before .before .head-within .ensures)) ∙ c .before .before .before .if3 .left, lt-leb _ _ (c .before .before .if4 .left), ap not (sym (c .before .signal-within .ensures)) ∙ c .if5 .taken)
+returns-5 c =
+    let registered = c .before .before in
+    let head = registered .before in
+    let long = head .before .before in
+    simp (
+      long .before .before .if1 .left,
+      sym (long .before .length-outside .ensures) ∙ long .if2 .left,
+      ap not (sym (head .before .head-within .ensures)) ∙ head .if3 .left,
+      lt-leb _ _ (registered .if4 .left),
+      ap not (sym (c .before .signal-within .ensures)) ∙ c .if5 .taken,
+    )
+
+fault-within-requires : tie.Need-fault-within-requires
+fault-within-requires c κs = search needs
 
 returns-6 : tie.Need-returns-6
 unfolding first
-returns-6 c = simp (c .before .before .before .before .before .before .before .if1 .left, sym (c .before .before .before .before .before .before .length-outside .ensures) ∙ c .before .before .before .before .before .if2 .left, ap not (sym (c .before .before .before .before .head-within .ensures)) ∙ c .before .before .before .if3 .left, lt-leb _ _ (c .before .before .if4 .left), ap not (sym (c .before .signal-within .ensures)) ∙ c .if5 .left)
+returns-6 c =
+    let signal = c .before .before in
+    let registered = signal .before .before in
+    let head = registered .before in
+    let long = head .before .before in
+    simp (
+      long .before .before .if1 .left,
+      sym (long .before .length-outside .ensures) ∙ long .if2 .left,
+      ap not (sym (head .before .head-within .ensures)) ∙ head .if3 .left,
+      lt-leb _ _ (registered .if4 .left),
+      ap not (sym (signal .before .signal-within .ensures)) ∙ signal .if5 .left,
+      ap not (sym (c .before .fault-within .ensures)) ∙ c .if6 .taken,
+    )
+
+returns-7 : tie.Need-returns-7
+unfolding first
+returns-7 c =
+    let signal = c .before .before in
+    let registered = signal .before .before in
+    let head = registered .before in
+    let long = head .before .before in
+    simp (
+      long .before .before .if1 .left,
+      sym (long .before .length-outside .ensures) ∙ long .if2 .left,
+      ap not (sym (head .before .head-within .ensures)) ∙ head .if3 .left,
+      lt-leb _ _ (registered .if4 .left),
+      ap not (sym (signal .before .signal-within .ensures)) ∙ signal .if5 .left,
+      ap not (sym (c .before .fault-within .ensures)) ∙ c .if6 .left,
+    )
 
 pub signal-number-spec : {M : Type 1} → statement M
 signal-number-spec =
@@ -52,4 +107,6 @@ signal-number-spec =
     returns-4
     signal-within-requires
     returns-5
-    returns-6)
+    fault-within-requires
+    returns-6
+    returns-7)

@@ -1,14 +1,15 @@
 -- The alive call: "An alive PDU is 128 to 1,472 octets, its length equal to BSIZE and ML, CBN = TBN = 1, code 60,003,
 -- group 0, layout by 5.3. … No number check."
 use Prim.Native.Nat.{ℕ}
-use mathlib.Core.Bool.{Bool, true, false, not, cond, _&&_}
+use mathlib.Core.Bool.{Bool, true, false, not, cond, _&&_, _||_}
 use mathlib.Core.List.{List, [], _∷_}
 use lib.Dec.{eqb, leb}
-use lib.ListN.{length}
+use lib.ListN.{length, drop}
 use Rattle.header.specs.declared.Head.{Head}
 use Rattle.signal.specs.declared.Body.{Body}
 use Rattle.signal.specs.Alive.{bodyOf, isBody, groupOf}
 use Rattle.signal.specs.AlivePlaces.{aliveSize}
+use Rattle.fault.specs.Reading.{isSection}
 use Rattle.header.specs.Codes.{isAlive}
 use Rattle.header.specs.Head.{headOf, lengthOutside, commonWithin}
 use Rattle.state.specs.declared.Sender.{Sender}
@@ -41,7 +42,11 @@ unfoldable pub aliveWithin : ℕ → Head → Body → Bool
 aliveWithin k h b =
     eqb (h .cut .ml) k && eqb (h .cut .cbn) 1 && eqb (h .cut .tbn) 1 && eqb (groupOf (h .given .da)) 0 && isBody b
 
--- "Alive signals use 9, 12, 13, 14, 22 only"
+-- 02, Item 2: "The section ends the PDU exactly, or is absent in a PDU of 128 octets; this narrows 01."
+unfoldable pub faultWithin : List ℕ → Bool
+faultWithin packet = eqb (length packet) aliveSize || isSection (drop aliveSize packet)
+
+-- "Alive signals use 9, 12, 13, 14, 22 only", and "24 for a fault section that breaks these rules, after 22".
 abbrev pub signalRows : Bool → ℕ → ℕ → List ℕ → Head → Body → List Row
 signalRows ok count i packet h b =
     row 9 (not ok)
@@ -50,6 +55,7 @@ signalRows ok count i packet h b =
     -- "sender not registered"
     ∷ row 14 (leb count i)
     ∷ row 22 (not (aliveWithin (length packet) h b))
+    ∷ row 24 (not (faultWithin packet))
     ∷ []
 
 unfoldable pub aliveRows : Receiver → List ℕ → List Row

@@ -16,7 +16,7 @@ use Rattle.header.specs.Head.{headOf}
 use Rattle.state.specs.declared.Address.{Address}
 use Rattle.state.specs.declared.Look.{Look}
 use Rattle.state.specs.declared.Receiver.{Receiver}
-use Rattle.rules.specs.calls.Alive.{aliveLengthWrong, aliveHeadWithin, aliveWithin, signalRows, aliveRows, noted, notNoted, aliveAnswer}
+use Rattle.rules.specs.calls.Alive.{aliveLengthWrong, aliveHeadWithin, aliveWithin, faultWithin, signalRows, aliveRows, noted, notNoted, aliveAnswer}
 use Rattle.rules.specs.calls.First.{first}
 use Rattle.rules.specs.calls.FirstLaws.{first-here, first-none}
 use Rattle.state.specs.Limits.{valid}
@@ -25,13 +25,14 @@ use Rattle.state.specs.LimitsLaws.{valid-count}
 use Rattle.state.specs.Table.{source, found, lookAt}
 use Rattle.state.specs.TableLaws.{look-valid, look-place}
 
--- What is known where none of 9, 12, 13, 14 and 22 applies.
+-- What is known where none of 9, 12, 13, 14, 22 and 24 applies.
 pub record Heeded (ok : Bool) (count i : ℕ) (packet : List ℕ) (h : Head) (b : Body) : Type 0 where
   pub is-valid : ok ≡ true
   pub length-right : aliveLengthWrong (length packet) h ≡ false
   pub head-within : aliveHeadWithin packet h ≡ true
   pub registered : i < count
   pub within : aliveWithin (length packet) h b ≡ true
+  pub fault-within : faultWithin packet ≡ true
 
 pub signal-facts : (ok : Bool) (count i : ℕ) (packet : List ℕ) (h : Head) (b : Body) → first (signalRows ok count i packet h b) ≡ 0 → Heeded ok count i packet h b
 signal-facts ok count i packet h b e =
@@ -40,12 +41,14 @@ signal-facts ok count i packet h b e =
     let r13 = first-none 13 (not (aliveHeadWithin packet h)) _ (λ z. omega arith) (r12 .1) in
     let r14 = first-none 14 (leb count i) _ (λ z. omega arith) (r13 .1) in
     let r22 = first-none 22 (not (aliveWithin (length packet) h b)) _ (λ z. omega arith) (r14 .1) in
+    let r24 = first-none 24 (not (faultWithin packet)) _ (λ z. omega arith) (r22 .1) in
     record {
       is-valid = not-false ok (r9 .0);
       length-right = r12 .0;
       head-within = not-false (aliveHeadWithin packet h) (r13 .0);
       registered = leb-false count i (r14 .0);
       within = not-false (aliveWithin (length packet) h b) (r22 .0);
+      fault-within = not-false (faultWithin packet) (r24 .0);
     }
 
 pub alive-facts : (w : Receiver) (packet : List ℕ) → first (aliveRows w packet) ≡ 0

@@ -1,6 +1,6 @@
 -- Small pasts, each call with the answer that 01 gives to it, written out in numbers and octets: one table. The answers
 -- were worked out by hand from the sentences that stand above them. Nothing is proved here; `ListingsLaws` computes.
-use Prim.Native.Nat.{ℕ, _-_, _*_}
+use Prim.Native.Nat.{ℕ, _+_, _-_, _*_}
 use mathlib.Core.Bool.{Bool, true, false, cond, _&&_}
 use mathlib.Core.List.{List, [], _∷_, _++_}
 use lib.Dec.{eqb}
@@ -217,6 +217,12 @@ signals node timeout mode = alive (aliveLaid (0 ∷ 0 ∷ 0 ∷ timeout ∷ []) 
 abbrev pub signal : (octets node da tcd ml bsize cbn tbn : ℕ) → Event
 signal octets node da tcd ml bsize cbn tbn = alive (aliveLaid (0 ∷ 0 ∷ 0 ∷ 2 ∷ []) 1 4 1 (headed octets node da tcd ml bsize cbn tbn))
 
+-- One with these octets behind the first 128, for 2 seconds.
+abbrev pub behind : (mode : ℕ) → List ℕ → Event
+behind mode section =
+    let size = 128 + length section in
+    alive (aliveLaid (0 ∷ 0 ∷ 0 ∷ 2 ∷ []) mode 4 1 (headed 128 7 0 60003 size size 1 1) ++ section)
+
 abbrev pub speaks : (protocol ver : ℕ) → Event
 speaks protocol ver = alive (aliveLaid (0 ∷ 0 ∷ 0 ∷ 2 ∷ []) 1 protocol ver (headed 128 7 0 60003 128 128 1 1))
 
@@ -266,7 +272,7 @@ pub data Name : Type 0 where
   message-length packet-length piece-length cut-not-possible number-check unchecked : Name
   any-order twelve-pieces sixty-four-pieces two-senders empty-part dropped newcomer-of-one open-message : Name
   lowest-missing first-open sixteen-senders : Name
-  alive-length alive-fields seconds alive-stamp dead-by-mode dead-map : Name
+  alive-length alive-fields alive-fault seconds alive-stamp dead-by-mode dead-map : Name
   stamp drop-time clock-limits : Name
 
 unfoldable pub listings : Name → List Listing
@@ -544,12 +550,12 @@ listings sixteen-senders =
     past (table 16 sixteen) ((signals 16 2 1, A 0) ∷ (signals 2 2 1, A 0) ∷ (signals 17 2 1, A 14) ∷ (clock 2000, C 0 0 32770) ∷ (aside question, none-open) ∷ [])
     ∷ []
 -- "An alive PDU is 128 to 1,472 octets, its length equal to BSIZE and ML"; "12: PDU too short (…; alive 128), too long
--- (…; alive 1,472), or length unlike BSIZE"; "Octets after the first 128 are passed over."
+-- (…; alive 1,472), or length unlike BSIZE". Octets 9 are no fault section (24).
 listings alive-length =
     past raft
     ((signal 127 7 0 60003 127 127 1 1, A 12)
     ∷ (signal 128 7 0 60003 128 128 1 1, A 0)
-    ∷ (signal 1472 7 0 60003 1472 1472 1 1, A 0)
+    ∷ (signal 1472 7 0 60003 1472 1472 1 1, A 24)
     ∷ (signal 1473 7 0 60003 1473 1473 1 1, A 12)
     ∷ (signal 128 7 0 60003 128 129 1 1, A 12)
     ∷ [])
@@ -570,6 +576,41 @@ listings alive-fields =
     ∷ (speaks 4 2, A 22)
     ∷ (signals 7 2 0, A 22)
     ∷ (signals 7 2 4, A 22)
+    ∷ [])
+    ∷ []
+-- 02, Item 2: "The section ends the PDU exactly, or is absent in a PDU of 128 octets". "L is (modules + 31) / 32 × 4, …, so 33
+-- modules give 8. Module X has bit (X − 1) mod 8, lowest first, of octet (X − 1) / 8, set when dead; bits above the count …
+-- must be 0", "module, from 1", "the total of 1,344 octets decides". "24 for a fault section that breaks these rules, after 22".
+listings alive-fault =
+    past raft
+    ((behind 1 (replicate 1 0), A 24)
+    ∷ (behind 1 (replicate 19 0), A 24)
+    ∷ (behind 1 (replicate 20 0), A 0)
+    ∷ (behind 1 (replicate 21 0), A 24)
+    -- 32 modules, 33 with the last of them dead, a bit for module 34, and five octets for 33
+    ∷ (behind 1 (0 ∷ 0 ∷ 0 ∷ 32 ∷ 0 ∷ 0 ∷ 0 ∷ 128 ∷ replicate 16 0), A 0)
+    ∷ (behind 1 (0 ∷ 0 ∷ 0 ∷ 33 ∷ 0 ∷ 0 ∷ 0 ∷ 0 ∷ 1 ∷ 0 ∷ 0 ∷ 0 ∷ replicate 16 0), A 0)
+    ∷ (behind 1 (0 ∷ 0 ∷ 0 ∷ 33 ∷ 0 ∷ 0 ∷ 0 ∷ 0 ∷ 2 ∷ 0 ∷ 0 ∷ 0 ∷ replicate 16 0), A 24)
+    ∷ (behind 1 (0 ∷ 0 ∷ 0 ∷ 33 ∷ 0 ∷ 0 ∷ 0 ∷ 0 ∷ 1 ∷ replicate 16 0), A 24)
+    -- one error: of a module that is not counted, and of module 0
+    ∷ (behind 1 (0 ∷ 0 ∷ 0 ∷ 0 ∷ 0 ∷ 0 ∷ 0 ∷ 1 ∷ (replicate 8 65 ++ (0 ∷ 7 ∷ 1 ∷ 2 ∷ 0 ∷ 0 ∷ 0 ∷ 0 ∷ []))), A 0)
+    ∷ (behind 1 (0 ∷ 0 ∷ 0 ∷ 0 ∷ 0 ∷ 0 ∷ 0 ∷ 1 ∷ (replicate 8 65 ++ (0 ∷ 0 ∷ 1 ∷ 2 ∷ 0 ∷ 0 ∷ 0 ∷ 0 ∷ []))), A 24)
+    -- two octets of options, one of them missing, and one that is not counted
+    ∷ (behind 1 (replicate 19 0 ++ (2 ∷ 9 ∷ 9 ∷ [])), A 0)
+    ∷ (behind 1 (replicate 19 0 ++ (2 ∷ 9 ∷ [])), A 24)
+    ∷ (behind 1 (replicate 19 0 ++ (1 ∷ 9 ∷ 9 ∷ [])), A 24)
+    -- 1,324 octets of options
+    ∷ (behind 1 (replicate 18 0 ++ (5 ∷ 44 ∷ replicate 1324 9)), A 0)
+    ∷ [])
+    -- "after 22"; "in every mode"; "a refused signal leaves its sender as it was".
+    ∷ past raft
+    ((behind 1 (replicate 20 0), A 0)
+    ∷ (behind 4 (replicate 21 0), A 22)
+    ∷ (behind 2 (replicate 21 0), A 24)
+    ∷ (behind 3 (replicate 21 0), A 24)
+    ∷ (clock 1999, C 0 0 0)
+    ∷ (behind 1 (replicate 21 0), A 24)
+    ∷ (clock 2000, C 0 0 1)
     ∷ [])
     ∷ []
 -- "calls dead each alive sender whose age is al_tm_out or more", which 5.3 has in seconds; "al_tm_out 0 is dead at the

@@ -16,6 +16,12 @@ use Rattle.header.specs.Codes.{codeOf}
 use Rattle.header.specs.Head.{header, headOf, isFixed}
 use Rattle.header.specs.Layout.{layout, tabulate, octetOf}
 use Rattle.signal.specs.Alive.{bodyOf, isBody}
+use Rattle.fault.specs.Bits.{noneAbove}
+use Rattle.fault.specs.Places.{errorsFrom}
+use Rattle.fault.specs.Reading.{isSection}
+use Rattle.fault.specs.Section.{areErrors}
+use Rattle.fault.specs.SectionLaws.{decide, section?}
+use Rattle.fault.specs.private.Judged.{judged}
 use Rattle.cut.specs.Possible.{unit, frontPossible, lastPossible, severalPossible, possible}
 use Rattle.map.specs.Map.{bit, fullMap, holdsAll, marked, lowest}
 use Rattle.map.specs.MapLaws.{partial-is}
@@ -24,7 +30,7 @@ use Rattle.state.specs.Limits.{lastWithin, messageWithin, senderWithin, newAmon
 use Rattle.state.specs.State.{newSender, withMessage, firstWhere}
 use Rattle.answers.specs.Told.{callNumber}
 use Rattle.rules.specs.calls.Admit.{rejoins, sameCut, senderRows, mapAfter, keptAfter, fills, droppedBy, senderAfter, heldAfter, admitted}
-use Rattle.rules.specs.calls.Alive.{aliveHeadWithin, aliveWithin, aliveRows, heardBy, aliveAnswer}
+use Rattle.rules.specs.calls.Alive.{aliveHeadWithin, aliveWithin, faultWithin, aliveRows, heardBy, aliveAnswer}
 use Rattle.rules.specs.calls.Clock.{aged, agedSenders, mapWhere, ticked, notTicked, clockAnswer}
 use Rattle.rules.specs.calls.First.{first}
 use Rattle.rules.specs.calls.Message.{headWithin, messageRows, storageAfter, withSender, taken, refused, messageAnswer, messageStorage}
@@ -32,7 +38,7 @@ use Rattle.rules.specs.calls.Part.{storedPart}
 use Rattle.rules.specs.calls.Question.{questionAnswer}
 use Rattle.rules.specs.calls.Setup.{setupWithin, newSenders, setupState, setupAnswer}
 use Rattle.rules.specs.pasts.Past.{World, Event, aside, question, step, said}
-use Rattle.rules.specs.pasts.Listings.{Line, line, numbers, address, raft, of64, stored, missing, refused as refused-with, same, holds, told, met, all, Name, the-listing, out-of-range, not-registered, setup-limits, refused-setup, mode-as-given, n1-as-given, lowest-number, message-length, packet-length, piece-length, cut-not-possible, number-check, unchecked, any-order, twelve-pieces, sixty-four-pieces, two-senders, empty-part, dropped, newcomer-of-one, open-message, lowest-missing, first-open, sixteen-senders, alive-length, alive-fields, seconds, alive-stamp, dead-by-mode, dead-map, stamp, drop-time, clock-limits, listings}
+use Rattle.rules.specs.pasts.Listings.{Line, line, numbers, address, raft, of64, stored, missing, refused as refused-with, same, holds, told, met, all, Name, the-listing, out-of-range, not-registered, setup-limits, refused-setup, mode-as-given, n1-as-given, lowest-number, message-length, packet-length, piece-length, cut-not-possible, number-check, unchecked, any-order, twelve-pieces, sixty-four-pieces, two-senders, empty-part, dropped, newcomer-of-one, open-message, lowest-missing, first-open, sixteen-senders, alive-length, alive-fields, alive-fault, seconds, alive-stamp, dead-by-mode, dead-map, stamp, drop-time, clock-limits, listings}
 
 -- All that is computed with stands in this line, but for `ones`: who unfolds `kept` unfolds it.
 kept : Name → Bool
@@ -44,7 +50,7 @@ unfolding
     setupWithin newSenders setupState setupAnswer
     first headWithin messageRows messageAnswer taken refused withSender messageStorage storageAfter storedPart
     senderRows admitted rejoins sameCut mapAfter keptAfter fills droppedBy senderAfter heldAfter
-    aliveHeadWithin aliveWithin aliveRows heardBy aliveAnswer
+    aliveHeadWithin aliveWithin faultWithin isSection section? decide judged noneAbove areErrors errorsFrom aliveRows heardBy aliveAnswer
     clockAnswer ticked notTicked agedSenders aged mapWhere questionAnswer
 kept x = all (listings x)
 
@@ -252,6 +258,10 @@ alive-fields-kept : kept alive-fields ≡ true
 unfolding kept ones
 alive-fields-kept = refl {a = true}
 
+alive-fault-kept : kept alive-fault ≡ true
+unfolding kept ones
+alive-fault-kept = refl {a = true}
+
 seconds-kept : kept seconds ≡ true
 unfolding kept ones
 seconds-kept = refl {a = true}
@@ -309,6 +319,7 @@ every-listing first-open = first-open-kept
 every-listing sixteen-senders = sixteen-senders-kept
 every-listing alive-length = alive-length-kept
 every-listing alive-fields = alive-fields-kept
+every-listing alive-fault = alive-fault-kept
 every-listing seconds = seconds-kept
 every-listing alive-stamp = alive-stamp-kept
 every-listing dead-by-mode = dead-by-mode-kept

@@ -2,14 +2,14 @@
 use borrow.Author.Needs.{needs}
 use Prim.Native.Nat.{_≤_, _-_}
 use lib.ListN.{length}
-use Rattle.edges_lines.proofs.line.Statement.{statement}
-use Rattle.edges_lines.proofs.line.Tie as tie
+use Rattle.edges_lines.proofs.words.Statement.{statement}
+use Rattle.edges_lines.proofs.words.Tie as tie
 
 abbrev Inv-loop : tie.InvT-loop
-Inv-loop letter numbers i₀ t4 t5 i = i ≤ length numbers
+Inv-loop letter numbers i₀ t4 i = i ≤ length numbers
 
 abbrev μ-loop : tie.MeasureT-loop
-μ-loop letter numbers i₀ t4 t5 i = length numbers - i
+μ-loop letter numbers i₀ t4 i = length numbers - i
 
 slice-aggregate-write-all : tie.Need-slice-aggregate-write-all Inv-loop μ-loop
 slice-aggregate-write-all c = search needs
@@ -44,17 +44,11 @@ loop-less c = search needs
 loop-again : tie.Need-loop-again Inv-loop μ-loop
 loop-again c = search needs
 
-slice-aggregate-write-all-3 : tie.Need-slice-aggregate-write-all-3 Inv-loop μ-loop
-slice-aggregate-write-all-3 c = search needs
-
-write-all-requires-3 : tie.Need-write-all-requires-3 Inv-loop μ-loop
-write-all-requires-3 c κs = search needs
-
 returns : tie.Need-returns Inv-loop μ-loop
 returns c = search needs
 
-pub line-spec : {M : Type 1} → statement M
-line-spec =
+pub words-spec : {M : Type 1} → statement M
+words-spec =
     tie.close
     (tie.spec
     Inv-loop
@@ -70,6 +64,4 @@ line-spec =
     add-i
     loop-less
     loop-again
-    slice-aggregate-write-all-3
-    write-all-requires-3
     returns)

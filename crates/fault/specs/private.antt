@@ -1,0 +1,4 @@
+pub mod Judged
+pub mod Laid
+pub mod Parts
+pub mod PartsLaws
