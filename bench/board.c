@@ -1,9 +1,7 @@
 /* The nights through the calls of include/adp.h, as a board makes them: the state is words of the caller's, and each
- * packet and each piece is one call into the archive, which is linked, not compiled in. It takes and answers what the
- * other two sides do, and assumes as they do that the packets lie one behind the other. */
+ * packet, each piece and each section is one call into the archive, which is linked, not compiled in. It takes and
+ * answers what the other two sides do, and assumes as they do that the packets lie one behind the other. */
 #include "twin.h"
-
-#include "adp.h"
 
 /* Setup, for the nodes 1 to `senders` of data field 1. A refused one leaves the empty state, as on the other sides. */
 static void begin(uint64_t *state, uint8_t mode, uint16_t n1, uint32_t t, uint8_t senders) {
@@ -55,4 +53,28 @@ uint64_t board_cuts(uint32_t number, const uint8_t *message, size_t n, uint16_t 
         sum += (uint64_t)cutting.number + cutting.length;
     }
     return sum;
+}
+
+void board_reads(const uint8_t *sections, size_t size, size_t count, struct adp_fault *answers) {
+    for (size_t i = 0; i < count; i++) answers[i] = adp_fault_read(sections + i * size, size);
+}
+
+/* One call for each error, and one for the options. */
+void board_shows(const uint8_t *sections, size_t size, size_t count, struct shown *answers) {
+    for (size_t i = 0; i < count; i++) {
+        const uint8_t *section = sections + i * size;
+        struct shown *a = &answers[i];
+        a->fault = adp_fault_read(section, size);
+        if (a->fault.number != ADP_DONE) continue;
+        for (uint32_t k = 0; k < a->fault.errors; k++) a->errors[k] = adp_fault_error(section, size, k);
+        a->options = adp_fault_options(section, size);
+    }
+}
+
+void board_writes(const struct parts *given, size_t count, uint8_t *buffers, size_t room, struct adp_written *answers) {
+    for (size_t i = 0; i < count; i++) {
+        const struct parts *p = &given[i];
+        answers[i] = adp_fault_write(p->modules, p->bits, p->octets, p->errors, p->numbers, p->name, p->options,
+                                     p->length, buffers + i * room, room);
+    }
 }

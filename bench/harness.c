@@ -1,6 +1,8 @@
 /* Prepares a night's packets, and has one side run through them:   harness NIGHT value|board|twin|none|all ROUNDS
  * `none` only prepares, so that its count can be taken off. `all` compares what the sides answered and wrote, and fails
- * where they differ. It prints how many packets ROUNDS rounds have.   harness list   prints the nights. */
+ * where they differ. It prints how many packets ROUNDS rounds have.   harness list   prints the nights, and the sides
+ * of each. */
+#include "sections.h"
 #include "twin.h"
 
 #include <stdbool.h>
@@ -22,8 +24,8 @@ static uint8_t places[MOST_ROUNDS * PLACES];
 
 struct night {
     const char *name;
-    enum { JOIN, REFUSED, MIXED, PAGE, CUT } kind;
-    /* of a join, a page and a cutting: n octets in pieces of u */
+    enum { JOIN, REFUSED, MIXED, PAGE, CUT, SECTION_READ, SECTION_SHOWN, SECTION_WRITTEN } kind;
+    /* of a join, a page and a cutting: n octets in pieces of u; of a fault section: n modules, u errors */
     uint16_t n, u;
     uint8_t senders;
     bool reversed;
@@ -62,11 +64,29 @@ static const struct night nights[] = {
     {"cut into 1 piece of 1396", CUT, 1396, 1396, 1, false, 0},
     {"cut into 1 piece of 16", CUT, 16, 1396, 1, false, 0},
     {"cutting refused with 23", CUT, 16384, 1397, 1, false, 23},
+    {"section read, 331 errors", SECTION_READ, 0, 331, 1, false, 0},
+    {"section read, 10592 modules", SECTION_READ, 10592, 0, 1, false, 0},
+    {"section read, 1324 of options", SECTION_READ, 0, 0, 1, false, 0},
+    {"section read, a mixture", SECTION_READ, 290, 200, 1, false, 0},
+    {"section refused with 24", SECTION_READ, 0, 331, 1, false, 24},
+    {"section shown, a mixture", SECTION_SHOWN, 290, 200, 1, false, 0},
+    {"section written, 331 errors", SECTION_WRITTEN, 0, 331, 1, false, 0},
+    {"section written, 10592 modules", SECTION_WRITTEN, 10592, 0, 1, false, 0},
+    {"section written, 1324 of options", SECTION_WRITTEN, 0, 0, 1, false, 0},
+    {"section written, a mixture", SECTION_WRITTEN, 290, 200, 1, false, 0},
+    {"writing refused with 24", SECTION_WRITTEN, 0, 331, 1, false, 24},
+    {"writing refused with 23", SECTION_WRITTEN, 0, 331, 1, false, 23},
 };
 
 static void fail(const char *what, const char *which) {
     fprintf(stderr, "bench: %s: %s\n", which, what);
     exit(1);
+}
+
+static bool is_section(const struct night *k) { return k->kind >= SECTION_READ; }
+
+static enum sections section_work(const struct night *k) {
+    return k->kind == SECTION_READ ? READ : k->kind == SECTION_SHOWN ? SHOWN : WRITTEN;
 }
 
 static unsigned pieces(const struct night *k) { return k->n <= k->u ? 1 : (k->n - 1u) / k->u + 1u; }
@@ -151,6 +171,10 @@ static void mixed_round(const struct night *k, unsigned round) {
 }
 
 static void prepare(const struct night *k, unsigned rounds) {
+    if (is_section(k)) {
+        sections_prepare(k->n, k->u, k->number, rounds);
+        return;
+    }
     size_t most = (size_t)(rounds + 1) * PLACES * pieces(k);
     packets = malloc(most * LONGEST);
     sizes = malloc(most * sizeof *sizes);
@@ -174,11 +198,15 @@ static const struct side {
     night_call *night;
     pages_call *pages;
     cuts_call *cuts;
+    struct section_calls sections;
 } sides[SIDES] = {
-    {"value", adp_night, adp_pages, adp_cuts},
-    {"board", board_night, board_pages, board_cuts},
-    {"twin", twin_night, twin_pages, twin_cuts},
+    {"value", adp_night, adp_pages, adp_cuts, {NULL, NULL, NULL}},
+    {"board", board_night, board_pages, board_cuts, {board_reads, board_shows, board_writes}},
+    {"twin", twin_night, twin_pages, twin_cuts, {twin_reads, twin_shows, twin_writes}},
 };
+
+/* Fault sections have no side by value. */
+static bool has(const struct night *k, unsigned side) { return !is_section(k) || sides[side].sections.reads != NULL; }
 
 static uint64_t run_night(const struct night *k, night_call *call, uint8_t *storage) {
     size_t room = (size_t)k->senders * AREA - (k->number == 11);
@@ -255,7 +283,18 @@ static void expect(const struct night *k, uint64_t sum, unsigned rounds) {
         fail("not every packet was refused with its number", k->name);
 }
 
+/* Each answer and each octet against what it must be. */
+static void compare_sections(const struct night *k, unsigned rounds) {
+    for (unsigned side = 0; side < SIDES; side++)
+        if (has(k, side) && !sections_right(section_work(k), &sides[side].sections, rounds))
+            fail("a section is not what was given", k->name);
+}
+
 static void compare(const struct night *k, unsigned rounds) {
+    if (is_section(k)) {
+        compare_sections(k, rounds);
+        return;
+    }
     uint64_t first = run(k, 0, rounds);
     for (unsigned side = 1; side < SIDES; side++)
         if (run(k, side, rounds) != first) fail("the sides answer differently", k->name);
@@ -270,7 +309,9 @@ static void compare(const struct night *k, unsigned rounds) {
 static uint64_t run_counted(const struct night *k, unsigned side, unsigned rounds) {
     volatile uint8_t *passed = __builtin_alloca((uintptr_t)__builtin_frame_address(0) % 4096 + 1);
     passed[0] = 0;
-    return run(k, side, rounds);
+    if (!is_section(k)) return run(k, side, rounds);
+    sections_run(section_work(k), &sides[side].sections, rounds);
+    return 0;
 }
 
 /* Has the side of this name run the night, all of them, or none. */
@@ -283,7 +324,7 @@ static void run_named(const struct night *k, const char *name, unsigned rounds) 
         return;
     }
     for (unsigned side = 0; side < SIDES; side++)
-        if (strcmp(name, sides[side].name) == 0) {
+        if (strcmp(name, sides[side].name) == 0 && has(k, side)) {
             sum = run_counted(k, side, rounds);
             (void)sum;
             return;
@@ -291,10 +332,17 @@ static void run_named(const struct night *k, const char *name, unsigned rounds) 
     fail("no such side", name);
 }
 
+static void list(size_t which) {
+    printf("%zu\t%s\t", which, nights[which].name);
+    for (unsigned side = 0; side < SIDES; side++)
+        if (has(&nights[which], side)) printf(" %s", sides[side].name);
+    printf("\n");
+}
+
 int main(int argc, char **argv) {
     size_t all = sizeof nights / sizeof nights[0];
     if (argc == 2 && strcmp(argv[1], "list") == 0) {
-        for (size_t i = 0; i < all; i++) printf("%zu\t%s\n", i, nights[i].name);
+        for (size_t i = 0; i < all; i++) list(i);
         return 0;
     }
     if (argc != 4) fail("NIGHT value|board|twin|none|all ROUNDS are needed", argv[0]);
@@ -304,6 +352,6 @@ int main(int argc, char **argv) {
     const struct night *k = &nights[which];
     prepare(k, rounds);
     run_named(k, argv[2], rounds);
-    printf("%zu\n", k->kind == CUT ? (size_t)pieces(k) * rounds : k->kind == PAGE ? rounds : count);
+    printf("%zu\n", k->kind == CUT ? (size_t)pieces(k) * rounds : k->kind == PAGE || is_section(k) ? rounds : count);
     return 0;
 }

@@ -1,5 +1,6 @@
 /* The same work in plain C, written for speed: the state stays behind a pointer, a sender's record is changed in place, and a PDU's fields are
- * read where they lie. It makes the same checks, 9 and 11 to 20 and the cutter's 23, in the same order, and gives the same answers. */
+ * read where they lie. It makes the same checks, 9 and 11 to 20, the cutter's 23, a section's 24 and its writer's 23, in the same order, and
+ * gives the same answers. */
 #include "twin.h"
 
 #include <stdbool.h>
@@ -332,4 +333,99 @@ uint64_t twin_cuts(uint32_t number, const uint8_t *message, size_t n, uint16_t u
         sum += length == 0 ? 23 : length;
     }
     return sum;
+}
+
+/* ---- fault sections */
+
+/* the octets of a section without modules, errors and options, and where in it the first error stands but for the bits */
+enum { EMPTY = 20, LIST = 16, NAME = 8 };
+
+static inline size_t bits_size(uint32_t modules) { return ((size_t)modules + 31) / 32 * 4; }
+
+/* A bit above the count stands in the last four octets, if anywhere; as one number, the first octet lowest, its bits lie in order. */
+static inline bool none_above(uint32_t modules, const uint8_t *bits) {
+    uint32_t last;
+    if (modules % 32 == 0) return true;
+    memcpy(&last, bits + modules / 32 * 4, sizeof last);
+    return last >> modules % 32 == 0;
+}
+
+/* Whether no error of n names the module 0. All are looked at, so that it compiles to comparisons of four at once. An error is loaded whole:
+ * its first two octets are the low half, be they a section's or a number in memory. */
+static inline bool are_errors(const void *list, size_t n) {
+    const uint8_t *s = list;
+    uint32_t zero = 0;
+    for (size_t k = 0; k < n; k++) {
+        uint32_t x;
+        memcpy(&x, s + 4 * k, sizeof x);
+        zero |= (x & 0xffff) == 0 ? ~0u : 0;
+    }
+    return zero == 0;
+}
+
+static inline struct adp_fault fault_read(const uint8_t *s, size_t size) {
+    const struct adp_fault refused = {.number = 24};
+    struct adp_fault f = {.number = 0};
+    if (size < EMPTY || SECTION < size) return refused;
+    size_t left = size - EMPTY, bits = bits_size(f.modules = read4(s));
+    if (left < bits) return refused;
+    left -= bits;
+    f.errors = read4(s + 4 + bits);
+    if (left / 4 < f.errors) return refused;
+    left -= 4 * f.errors;
+    f.options = read4(s + size - left - 4);
+    if (left != f.options || !none_above(f.modules, s + 4) || !are_errors(s + LIST + bits, f.errors)) return refused;
+    memcpy(f.name, s + LIST - NAME + bits, NAME);
+    return f;
+}
+
+/* Error k of a section that was judged. */
+static inline struct adp_error fault_error(const uint8_t *s, uint32_t k) {
+    size_t bits = bits_size(read4(s));
+    if (read4(s + 4 + bits) <= k) return (struct adp_error){0, 0};
+    const uint8_t *e = s + LIST + bits + 4 * (size_t)k;
+    return (struct adp_error){read2(e), read2(e + 2)};
+}
+
+/* Where the options of a section that was judged stand. */
+static inline struct adp_options fault_options(const uint8_t *s) {
+    size_t bits = bits_size(read4(s)), count = LIST + bits + 4 * (size_t)read4(s + 4 + bits);
+    uint32_t length = read4(s + count);
+    return (struct adp_options){length == 0 ? 0 : count + 4, length};
+}
+
+/* No sum wraps: what is lent is in memory. */
+static inline struct adp_written fault_write(const struct parts *p, uint8_t *restrict buffer, size_t room) {
+    size_t bits = bits_size(p->modules), size = EMPTY + bits + 2 * p->numbers + p->length;
+    if (room < size) return (struct adp_written){23, 0};
+    if (SECTION < size || p->octets != bits || p->numbers % 2 != 0 || !none_above(p->modules, p->bits) || !are_errors(p->errors, p->numbers / 2))
+        return (struct adp_written){24, 0};
+    uint8_t *at = buffer + LIST + bits;
+    write4(buffer, p->modules);
+    memcpy(buffer + 4, p->bits, bits);
+    write4(at - 12, (uint32_t)p->numbers / 2);
+    memcpy(at - NAME, p->name, NAME);
+    for (size_t i = 0; i < p->numbers; i++) write2(at + 2 * i, p->errors[i]);
+    write4(at + 2 * p->numbers, (uint32_t)p->length);
+    memcpy(at + 2 * p->numbers + 4, p->options, p->length);
+    return (struct adp_written){0, (uint16_t)size};
+}
+
+void twin_reads(const uint8_t *sections, size_t size, size_t count, struct adp_fault *restrict answers) {
+    for (size_t i = 0; i < count; i++) answers[i] = fault_read(sections + i * size, size);
+}
+
+void twin_shows(const uint8_t *sections, size_t size, size_t count, struct shown *restrict answers) {
+    for (size_t i = 0; i < count; i++) {
+        const uint8_t *section = sections + i * size;
+        struct shown *a = &answers[i];
+        struct adp_fault f = a->fault = fault_read(section, size);
+        if (f.number != 0) continue;
+        for (uint32_t k = 0; k < f.errors; k++) a->errors[k] = fault_error(section, k);
+        a->options = fault_options(section);
+    }
+}
+
+void twin_writes(const struct parts *given, size_t count, uint8_t *buffers, size_t room, struct adp_written *answers) {
+    for (size_t i = 0; i < count; i++) answers[i] = fault_write(&given[i], buffers + i * room, room);
 }

@@ -9,6 +9,7 @@ use capture_fields::Next;
 use capture_fields::next_field;
 use cut::cutter::cutter;
 use edges_lines::calls::question_line;
+use edges_lines::calls::written_line;
 use edges_lines::line;
 use edges_lines::octets_line;
 use edges_lines::sum;
@@ -75,16 +76,7 @@ fn given_in(contents: &[u8]) -> Given {
 }
 
 fn cutting_lines(number: u8, length: u16, buffer: &[u8]) {
-    let k = length as usize;
-    line(
-        b'K',
-        &[
-            number as u64,
-            length as u64,
-            sum(run(buffer, 0, k)),
-            sum(from(buffer, k)),
-        ],
-    );
+    written_line(b'K', number, length, buffer);
     if number == 0 {
         octets_line(b'k', run(buffer, 0, SIZE));
     }

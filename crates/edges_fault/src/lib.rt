@@ -3,6 +3,7 @@
 //
 // No contract can say what is printed, so these functions have none: they answer nothing, and nothing is lent to them
 // to write.
+use edges_lines::calls::written_line;
 use edges_lines::line;
 use edges_lines::line_with_eight;
 use edges_lines::sum;
@@ -88,7 +89,7 @@ fn write_into(buffer: &mut [u8], contents: &[u8]) {
         from(rest, NAME),
         buffer,
     );
-    writing_line(w.number(), w.length(), buffer);
+    written_line(b'Z', w.number(), w.length(), buffer);
 }
 
 fn numbers_from(numbers: &mut [u16], s: &[u8]) {
@@ -103,17 +104,4 @@ fn name_in(s: &[u8]) -> [u8; NAME] {
     let mut name = [0u8; NAME];
     lay(&mut name, 0, run(s, 0, NAME));
     name
-}
-
-fn writing_line(number: u8, length: u16, buffer: &[u8]) {
-    let k = length as usize;
-    line(
-        b'Z',
-        &[
-            number as u64,
-            length as u64,
-            sum(run(buffer, 0, k)),
-            sum(from(buffer, k)),
-        ],
-    );
 }

@@ -1,11 +1,14 @@
 // The lines of the calls: what is printed of each answer. A call's tag is the letter of its line, and a small one
 // prints nothing.
 use crate::line;
+use crate::sum;
 use answers::Call;
 use answers::Dropped;
 use answers::Missing;
 use answers::Outcome;
 use map::lowest_missing;
+use octets::from;
+use octets::run;
 use state::Receiver;
 
 // "the small one makes the same call and prints nothing"
@@ -21,6 +24,20 @@ pub fn call_line(tag: u8, call: Call) {
 
 pub fn clock_line(tag: u8, call: Call, dropped: u16, dead: u16) {
     told(tag, &[call.number() as u64, dropped as u64, dead as u64]);
+}
+
+// Of what was written at the front of a buffer: the number, the length, and the sums of what was written and of the rest.
+pub fn written_line(letter: u8, number: u8, length: u16, buffer: &[u8]) {
+    let k = length as usize;
+    line(
+        letter,
+        &[
+            number as u64,
+            length as u64,
+            sum(run(buffer, 0, k)),
+            sum(from(buffer, k)),
+        ],
+    );
 }
 
 // Of the state that was asked. 01: "trailing ones give the lowest missing piece": they are asked beside the question's

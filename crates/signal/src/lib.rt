@@ -10,7 +10,7 @@ pub mod places;
 use octets::read1;
 use octets::read4;
 
-// The ADP header and the alive header; octets behind them are passed over.
+// The octets of the ADP header and the alive header.
 pub const SIZE: usize = 128;
 
 // The most octets of an alive PDU.
