@@ -1,5 +1,6 @@
 // What the calls for a board answer: structs of numbers, laid out by C's rules. Each call stands in a crate of its own above
-// this one, so that the compiler sees one caller of what the call is made of; include/adp.h declares them all.
+// this one, so that the compiler sees one caller of what the call is made of (those of the fault section share one);
+// include/adp.h declares them all.
 //
 // specs/Calls.antt says what each answers and leaves.
 

@@ -26,7 +26,7 @@ use Rattle.fault.specs.private.Judged.{endsRight, holdsRules, judged}
 
 -- ---- L
 
--- L has a bit for each module, and room for no more than 31 others.
+-- L octets have a bit for each module.
 pub bits-enough : (m : ℕ) → m ≤ 8 * bitsSize m
 bits-enough m = omega arith
 

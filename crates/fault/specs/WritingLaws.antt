@@ -1,5 +1,4 @@
--- Laws of writing a section: what is laid down part by part are the octets of the section that is given, and exactly the
--- parts of sections within the rules are written. Assumes nothing.
+-- Laws of writing a section: what is laid down part by part are the octets of the section that is given. Assumes nothing.
 use Prim.Native.Nat.{ℕ, suc, _+_, _-_, _*_, _/_, _%_, _≤_, _<_}
 use mathlib.Core.Path.{_≡_, refl, sym, ap, _∙_}
 use mathlib.Core.Bool.{Bool, true, false, _&&_}
