@@ -3,8 +3,10 @@
 //
 // It is total: it takes any state and any octets, and refuses with their number those outside the limits.
 ghost use mathlib.Core.Path.{_≡_};
+ghost use mathlib.Core.Bool.{not};
+ghost use mathlib.Core.List.{[], _∷_};
 ghost use Rattle.rules.specs.calls.Alive.{aliveHeadWithin, aliveWithin, faultWithin, signalRows, heardBy, aliveAnswer};
-ghost use Rattle.rules.specs.calls.First.{first};
+ghost use Rattle.rules.specs.calls.First.{row, first};
 use answers::Call;
 use answers::Noted;
 use fault::reading::is_section;
@@ -67,7 +69,14 @@ pub fn signal_number(valid: bool, count: u8, at: u8, packet: &[u8], h: Head, bod
     if !signal_within(size, h, body) {
         return 22;
     }
-    if !fault_within(packet) { 24 } else { 0 }
+    fault_number(packet)
+}
+
+// 24, or 0 where nothing is left to refuse.
+fn fault_number(packet: &[u8]) -> u8
+    ensures { λ r. ⌜ r ≡ first (row 24 (not (faultWithin (now (packet .entry)))) ∷ []) ⌝ }
+{
+    if fault_within(packet) { 0 } else { 24 }
 }
 
 // The fixed fields, PRI, MODE and the code; SEQ is not looked at.

@@ -60,13 +60,13 @@ returns-5 c =
       ap not (sym (c .before .signal-within .ensures)) ∙ c .if5 .taken,
     )
 
-fault-within-requires : tie.Need-fault-within-requires
-fault-within-requires c κs = search needs
+fault-number-requires : tie.Need-fault-number-requires
+fault-number-requires c κs = search needs
 
 returns-6 : tie.Need-returns-6
 unfolding first
 returns-6 c =
-    let signal = c .before .before in
+    let signal = c .before in
     let registered = signal .before .before in
     let head = registered .before in
     let long = head .before .before in
@@ -76,23 +76,7 @@ returns-6 c =
       ap not (sym (head .before .head-within .ensures)) ∙ head .if3 .left,
       lt-leb _ _ (registered .if4 .left),
       ap not (sym (signal .before .signal-within .ensures)) ∙ signal .if5 .left,
-      ap not (sym (c .before .fault-within .ensures)) ∙ c .if6 .taken,
-    )
-
-returns-7 : tie.Need-returns-7
-unfolding first
-returns-7 c =
-    let signal = c .before .before in
-    let registered = signal .before .before in
-    let head = registered .before in
-    let long = head .before .before in
-    simp (
-      long .before .before .if1 .left,
-      sym (long .before .length-outside .ensures) ∙ long .if2 .left,
-      ap not (sym (head .before .head-within .ensures)) ∙ head .if3 .left,
-      lt-leb _ _ (registered .if4 .left),
-      ap not (sym (signal .before .signal-within .ensures)) ∙ signal .if5 .left,
-      ap not (sym (c .before .fault-within .ensures)) ∙ c .if6 .left,
+      c .fault-number .ensures,
     )
 
 pub signal-number-spec : {M : Type 1} → statement M
@@ -107,6 +91,5 @@ signal-number-spec =
     returns-4
     signal-within-requires
     returns-5
-    fault-within-requires
-    returns-6
-    returns-7)
+    fault-number-requires
+    returns-6)
