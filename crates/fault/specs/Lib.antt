@@ -4,6 +4,7 @@ pub mod Bits
 pub mod BitsLaws
 pub mod Places
 pub mod ErrorsLaws
+pub mod PlacesLaws
 pub mod SectionLaws
 pub mod Reading
 pub mod ReadingLaws

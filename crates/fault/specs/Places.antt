@@ -5,6 +5,7 @@ use mathlib.Core.List.{List, [], _∷_}
 use lib.ListN.{drop}
 use Rattle.octets.specs.Number.{number}
 use Rattle.fault.specs.declared.Error.{Error}
+use Rattle.fault.specs.declared.places.Places.{Places}
 use Rattle.fault.specs.Section.{bitsSize}
 
 abbrev pub modulesIn : List ℕ → ℕ
@@ -23,6 +24,10 @@ countAt s = listAt s + 4 * errorsIn s
 
 abbrev pub optionsIn : List ℕ → ℕ
 optionsIn s = number 4 s (countAt s)
+
+-- All counts, and the two places.
+unfoldable pub placesOf : List ℕ → Places
+placesOf s = record { modules = modulesIn s; errors = errorsIn s; options = optionsIn s; list = listAt s; rest = countAt s + 4 }
 
 -- So many errors, from the beginning of these octets on.
 unfoldable pub errorsFrom : ℕ → List ℕ → List Error

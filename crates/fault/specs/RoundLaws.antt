@@ -17,8 +17,7 @@ use Rattle.fault.specs.BitsLaws.{length-packed, packed-none, unpacked-pa
 use Rattle.fault.specs.ErrorsLaws.{length-numbers}
 use Rattle.fault.specs.SectionLaws.{Within, bits-enough, section-size}
 use Rattle.fault.specs.Writing.{errorsGiven, sectionGiven, sizeGiven, keepsRules}
-use Rattle.fault.specs.WritingLaws.{given-modules, given-count}
-use Rattle.fault.specs.private.Laid.{Keeps}
+use Rattle.fault.specs.WritingLaws.{Keeps, given-modules, given-count}
 
 -- ---- what is given and kept
 

@@ -24,7 +24,7 @@ use Rattle.fault.specs.BitsLaws.{length-unpacked, packed-unpacked}
 use Rattle.fault.specs.ErrorsLaws.{length-pairs, error-asks}
 use Rattle.fault.specs.SectionLaws.{bits-enough}
 use Rattle.fault.specs.Writing.{errorsGiven, sectionGiven, sizeGiven, keepsRules, writingOf, bufferOf}
-use Rattle.fault.specs.private.Laid.{Keeps, frontOf, backOf}
+use Rattle.fault.specs.private.Laid.{frontOf, backOf}
 
 -- ---- the errors that are given
 
@@ -89,6 +89,14 @@ pairs-next s at l i h room =
     ∙ laid-on s at (pairsOf (take i l)) (octets 2 (getD l i 0)) (omega (arith, long, two)) ∙ ap (laid s at) (sym next)
 
 -- ---- what is given is a section's
+
+-- What `keepsRules` asks, each by itself.
+pub record Keeps (size modules : ℕ) (bits numbers : List ℕ) : Type 0 where
+  pub most : size ≤ mostSection
+  pub bits-long : length bits ≡ bitsSize modules
+  pub even : length numbers % 2 ≡ 0
+  pub none : noneAbove modules bits ≡ true
+  pub errors : areErrors (errorsGiven numbers) ≡ true
 
 pub keeps-facts : (size modules : ℕ) (bits numbers : List ℕ) → keepsRules size modules bits numbers ≡ true → Keeps size modules bits numbers
 unfolding keepsRules
@@ -187,11 +195,12 @@ front-laid s modules bits errors name eight room =
     ∙ ap (laid s 0) (append-assoc a bits (c ++ name))
 
 -- All of it, and the section that is given.
-pub given-laid : (modules : ℕ) (bits numbers name options s : List ℕ) → Keeps (sizeGiven modules numbers options) modules bits numbers
+pub given-laid : (modules : ℕ) (bits numbers name options s : List ℕ) → keepsRules (sizeGiven modules numbers options) modules bits numbers ≡ true
     → areBytes bits ≡ true → length name ≡ 8 → sizeGiven modules numbers options ≤ length s
     → laid (laid s 0 (frontOf modules bits (length numbers / 2) name)) (16 + length bits) (backOf numbers options)
     ≡ laid s 0 (octetsOf (sectionGiven modules bits numbers name options))
-given-laid modules bits numbers name options s k small eight room =
+given-laid modules bits numbers name options s keeps small eight room =
+    let k = keeps-facts (sizeGiven modules numbers options) modules bits numbers keeps in
     let front = frontOf modules bits (length numbers / 2) name in
     let back = backOf numbers options in
     let count = octets 4 (length numbers / 2) in
@@ -239,17 +248,16 @@ module _ (modules : ℕ) (bits numbers name options buffer : List ℕ) (l : ℕ)
 
       -- Nothing is left to refuse.
       module _ (t : k ≡ true) where
-        pub keeps-given : Keeps (sizeGiven modules numbers options) modules bits numbers
-        keeps-given = keeps-facts (sizeGiven modules numbers options) modules bits numbers (sym keeps-same ∙ t)
+        pub keeps-given : keepsRules (sizeGiven modules numbers options) modules bits numbers ≡ true
+        keeps-given = sym keeps-same ∙ t
 
         pub room-given : sizeGiven modules numbers options ≤ length buffer
         room-given = rw (← el) size-fits
 
         pub size-few : size ≤ mostSection
-        size-few = rw el (keeps-given .most)
+        size-few = rw el (keeps-facts (sizeGiven modules numbers options) modules bits numbers keeps-given .most)
 
         pub written-is : (left : List ℕ) → left ≡ laid buffer 0 (octetsOf (sectionGiven modules bits numbers name options)) → Met (Written size) left
         unfolding writingOf bufferOf
         written-is left there =
-            let holds : keepsRules (sizeGiven modules numbers options) modules bits numbers ≡ true = sym keeps-same ∙ t in
-            (rw (long, holds, el), rw (long, holds, there))
+            (rw (long, keeps-given, el), rw (long, keeps-given, there))

@@ -1,4 +1,2 @@
 pub mod Judged
 pub mod Laid
-pub mod Parts
-pub mod PartsLaws

@@ -8,14 +8,14 @@ ghost use Rattle.fault.specs.Section.{areErrors};
 ghost use Rattle.fault.specs.Places.{countAt, errorsFrom};
 ghost use Rattle.fault.specs.Reading.{isSection, readingOf, deadAt, errorAt, optionsOf};
 ghost use Rattle.fault.specs.private.Judged.{holdsRules};
-ghost use Rattle.fault.specs.private.Parts.{partsOf};
+ghost use Rattle.fault.specs.Places.{placesOf};
 use crate::Error;
 use crate::MOST;
 use crate::NAME;
 use crate::bits::bits_size;
 use crate::bits::none_above;
-use crate::places::Parts;
-use crate::places::parts_of;
+use crate::places::Places;
+use crate::places::places_of;
 use map::holds;
 use octets::lay;
 use octets::read1;
@@ -47,7 +47,7 @@ impl Report {
 pub fn read_section(s: &[u8]) -> Report
     ensures { λ r. ⌜ r ≡ readingOf (now (s .entry)) ⌝ }
 {
-    let p = parts_of(s);
+    let p = places_of(s);
     if !is_judged(s, p) {
         return Report::REFUSED;
     }
@@ -65,12 +65,12 @@ pub fn read_section(s: &[u8]) -> Report
 pub fn is_section(s: &[u8]) -> bool
     ensures { λ r. ⌜ r ≡ isSection (now (s .entry)) ⌝ }
 {
-    is_judged(s, parts_of(s))
+    is_judged(s, places_of(s))
 }
 
 // By its counts and places, which are read once.
-fn is_judged(s: &[u8], p: Parts) -> bool
-    requires { ⌜ p ≡ partsOf (now s) ⌝ }
+fn is_judged(s: &[u8], p: Places) -> bool
+    requires { ⌜ p ≡ placesOf (now s) ⌝ }
     ensures { λ r. ⌜ r ≡ isSection (now (s .entry)) ⌝ }
 {
     if s.len() != p.rest + p.options as usize {
@@ -80,8 +80,8 @@ fn is_judged(s: &[u8], p: Parts) -> bool
 }
 
 // Its length, its bits and its errors.
-fn holds_rules(s: &[u8], p: Parts) -> bool
-    requires { ⌜ (p ≡ partsOf (now s)) × (p .rest ≤ length (now s)) ⌝ }
+fn holds_rules(s: &[u8], p: Places) -> bool
+    requires { ⌜ (p ≡ placesOf (now s)) × (p .rest ≤ length (now s)) ⌝ }
     ensures { λ r. ⌜ r ≡ holdsRules (now (s .entry)) ⌝ }
 {
     if MOST < s.len() {
@@ -152,7 +152,7 @@ pub fn error_at(s: &[u8], k: u32) -> Error
 pub fn options(s: &[u8]) -> &[u8]
     ensures { λ r. ⌜ now r ≡ optionsOf (now (s .entry)) ⌝ }
 {
-    let p = parts_of(s);
+    let p = places_of(s);
     run(s, p.rest, p.options as usize)
 }
 
@@ -160,6 +160,6 @@ pub fn options(s: &[u8]) -> &[u8]
 pub fn options_at(s: &[u8]) -> usize
     ensures { λ r. ⌜ r ≡ countAt (now (s .entry)) + 4 ⌝ }
 {
-    let p = parts_of(s);
+    let p = places_of(s);
     p.rest
 }

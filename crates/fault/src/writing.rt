@@ -1,12 +1,13 @@
 // A section written into a lent buffer. Nothing is stored before 23 and 24 are decided.
 ghost use mathlib.Core.Path.{_≡_};
+ghost use mathlib.Core.Bool.{true};
 ghost use Prim.Native.Nat.{_+_, _*_, _≤_};
 ghost use lib.Dec.{ltb};
 ghost use lib.ListN.{length};
 ghost use Rattle.octets.specs.Run.{laid};
 ghost use Rattle.fault.specs.Section.{mostSection, pairsOf, octetsOf, areErrors};
 ghost use Rattle.fault.specs.Writing.{errorsGiven, sectionGiven, sizeGiven, keepsRules, writingOf, bufferOf, writingTold};
-ghost use Rattle.fault.specs.private.Laid.{Keeps, frontOf, backOf};
+ghost use Rattle.fault.specs.private.Laid.{frontOf, backOf};
 use crate::MOST;
 use crate::NAME;
 use crate::bits::bits_size;
@@ -125,7 +126,7 @@ fn write_parts(
     options: &[u8],
     buffer: &mut [u8],
 )
-    requires { ⌜ Keeps (sizeGiven modules (now errors) (now options)) modules (now bits) (now errors) × (sizeGiven modules (now errors) (now options) ≤ length (now buffer)) ⌝ }
+    requires { ⌜ (keepsRules (sizeGiven modules (now errors) (now options)) modules (now bits) (now errors) ≡ true) × (sizeGiven modules (now errors) (now options) ≤ length (now buffer)) ⌝ }
     ensures { λ _. ⌜ now (buffer .exit) ≡ laid (now (buffer .entry)) 0 (octetsOf (sectionGiven modules (now (bits .entry)) (now (errors .entry)) name (now (options .entry)))) ⌝ }
 {
     let list = 16 + bits.len();

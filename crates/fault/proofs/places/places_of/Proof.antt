@@ -1,8 +1,8 @@
 -- Each count is read where the definition says. Assumes nothing.
-use Rattle.fault.specs.private.Parts.{partsOf}
+use Rattle.fault.specs.Places.{placesOf}
 use borrow.Author.Needs.{needs}
-use Rattle.fault.proofs.places.parts_of.Statement.{statement}
-use Rattle.fault.proofs.places.parts_of.Tie as tie
+use Rattle.fault.proofs.places.places_of.Statement.{statement}
+use Rattle.fault.proofs.places.places_of.Tie as tie
 
 read4-requires : tie.Need-read4-requires
 read4-requires c κs = search needs
@@ -35,13 +35,13 @@ add-t8 : tie.Need-add-t8
 add-t8 c = search needs
 
 returns : tie.Need-returns
-unfolding partsOf
+unfolding placesOf
 returns c =
     let size = c .before .before in
     rw (c .read43 .ensures, c .before .read42 .ensures, size .bits-size .ensures, size .before .read4 .ensures)
 
-pub parts-of-spec : {M : Type 1} → statement M
-parts-of-spec =
+pub places-of-spec : {M : Type 1} → statement M
+places-of-spec =
     tie.close
     (tie.spec
     read4-requires

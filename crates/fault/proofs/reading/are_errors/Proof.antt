@@ -1,10 +1,8 @@
 -- The loop has looked at all errors but those left. Assumes nothing.
 use Prim.Native.Nat.{_+_, _*_, _≤_}
 use mathlib.Core.Path.{_≡_, refl, sym, _∙_}
-use mathlib.Core.Bool.{Bool, _&&_}
 use native.Mathlib.Omega.{arith}
 use denote.Ref.{now}
-use lib.Dec.{eqb}
 use lib.ListN.{length, drop}
 use Rattle.octets.specs.NumberLaws.{Octets}
 use Rattle.fault.specs.Section.{areErrors}

@@ -3,7 +3,7 @@ use native.Mathlib.Omega.{arith}
 use denote.Ref.{now}
 use borrow.Author.Needs.{needs}
 use borrow.Author.Tests.{le-leb, lt-leb, not-true, not-false}
-use Rattle.fault.specs.private.PartsLaws.{list-from, list-ends, bits-judged, errors-judged}
+use Rattle.fault.specs.PlacesLaws.{list-from, list-ends, bits-judged, errors-judged}
 use Rattle.fault.proofs.reading.holds_rules.Statement.{statement}
 use Rattle.fault.proofs.reading.holds_rules.Tie as tie
 

@@ -7,7 +7,7 @@ use borrow.Author.Tests.{eq-eqb, ne-eqb}
 use Rattle.octets.specs.NumberLaws.{Octets}
 use Rattle.fault.specs.ReadingLaws.{section-by}
 use Rattle.fault.specs.private.Judged.{judged}
-use Rattle.fault.specs.private.PartsLaws.{rest-few, options-few, ends-judged}
+use Rattle.fault.specs.PlacesLaws.{rest-few, options-few, ends-judged}
 use Rattle.fault.proofs.reading.is_judged.Statement.{statement}
 use Rattle.fault.proofs.reading.is_judged.Tie as tie
 

@@ -1,11 +1,10 @@
 -- The loop has laid down the first i numbers. Assumes nothing.
-use Prim.Native.Nat.{_+_, _-_, _*_, _/_, _%_, _≤_}
-use mathlib.Core.Path.{_≡_, refl, ap, _∙_}
+use Prim.Native.Nat.{_+_, _-_, _*_, _≤_}
+use mathlib.Core.Path.{_≡_, refl, _∙_}
 use native.Mathlib.Omega.{arith}
 use denote.Ref.{now}
 use lib.ListN.{length, take, getD, length-set}
 use lib.Seq.{take-length}
-use borrow.Author.Needs.{needs}
 use Rattle.octets.specs.Run.{laid}
 use Rattle.fault.specs.Section.{pairsOf}
 use Rattle.fault.specs.WritingLaws.{pairs-none, pairs-next, two-octets}

@@ -4,7 +4,7 @@ use native.Mathlib.Omega.{arith}
 use denote.Ref.{now}
 use lib.ListN.{length}
 use Rattle.octets.specs.NumberLaws.{octets-bytes}
-use Rattle.fault.specs.WritingLaws.{given-laid}
+use Rattle.fault.specs.WritingLaws.{keeps-facts, given-laid}
 use borrow.Author.Needs.{needs}
 use Rattle.fault.proofs.writing.write_parts.Statement.{statement}
 use Rattle.fault.proofs.writing.write_parts.Tie as tie
@@ -13,13 +13,13 @@ add-list : tie.Need-add-list
 add-list c = search needs
 
 cast-write-front : tie.Need-cast-write-front
-cast-write-front c = search needs
+cast-write-front c = search (needs, keeps-facts _ _ _ _ (c .before .before .before .before .before .pre .0))
 
 write-front-requires : tie.Need-write-front-requires
-write-front-requires c κs = search needs
+write-front-requires c κs = search (needs, keeps-facts _ _ _ _ (c .before .before .before .before .before .pre .0))
 
 write-back-requires : tie.Need-write-back-requires
-write-back-requires c κs = search needs
+write-back-requires c κs = search (needs, keeps-facts _ _ _ _ (c .before .before .before .before .before .before .before .before .before .pre .0))
 
 same-length : tie.Need-same-length
 same-length c = search needs
