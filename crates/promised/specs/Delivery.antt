@@ -26,7 +26,7 @@ use Rattle.answers.specs.Told.{leastRefusal, OutcomeTold, notDelivered, deliver
 use Rattle.rules.specs.pasts.Past.{Event, message, alive, clock, aside, Answers}
 use Rattle.promised.specs.Judged.{isFrom}
 use Rattle.promised.specs.Log.{ToldOf, toldBy, Exchange, exchange, calls, Name, Delivery, deliveries, lastOf, sameMessage, openOf}
-use Rattle.promised.specs.Says.{sendersOf, isLarger, verdictAfter}
+use Rattle.promised.specs.Says.{sendersOf, newerIsOpen, verdictAfter}
 
 -- ---- the message and its pieces
 
@@ -110,7 +110,7 @@ pub record May (q : Setup) (log : List Exchange) (m : Sent) (i : ℕ) : Type 0 w
   -- "the number check does not call it a repeat,"
   pub no-repeat : isRepeat (verdictFor q log m) ≡ false
   -- "no larger number of that version is open for the sender,"
-  pub none-larger : isLarger (openFor m i log) (nameIn m) ≡ false
+  pub none-newer : newerIsOpen (openFor m i log) (nameIn m) ≡ false
   -- "the mode admits it,": not a "test message at an online node"
   pub admits : eqb (m .mode) 1 && eqb (q .mode) 0 ≡ false
 

@@ -35,10 +35,10 @@ use Rattle.promised.specs.Join.{Kin, kinOf, Joined}
 use Rattle.promised.specs.Judged.{isFrom}
 use Rattle.promised.specs.KeptLaws.{TellsLog, open-each}
 use Rattle.promised.specs.Log.{ToldOf, toldBy, Exchange, exchange, logged, calls, Name, deliveries, lastOf, sameMessage, openBy, openOf}
-use Rattle.promised.specs.LogLaws.{lastIn, message-each, clock-each, named-same, larger-same, told-delivered, told-stored}
+use Rattle.promised.specs.LogLaws.{lastIn, message-each, clock-each, named-same, newer-same, told-delivered, told-stored}
 use Rattle.promised.specs.MessageSaysLaws.{online-is}
 use Rattle.promised.specs.PhaseLaws.{Unfinished, Phase, phase-same, phase-start, phase-next, phase-last, phase-more, phase-held, phase-once, phase-clock}
-use Rattle.promised.specs.PieceLaws.{Cuttable, least, isOpen, larger, piece-kin, piece-number, piece-octets}
+use Rattle.promised.specs.PieceLaws.{Cuttable, least, isOpen, newerOpen, piece-kin, piece-number, piece-octets}
 use Rattle.promised.specs.SafeLaws.{joined-part}
 use Rattle.promised.specs.Says.{sendersOf, verdictAfter}
 use Rattle.promised.specs.View.{View, view, sees, numberOf, outcomeView, nextView, tickView, stepView}
@@ -311,8 +311,8 @@ module _ (q : Setup) (log : List Exchange) (w : World) (a : Agrees q log w) (m :
   unfolding isOpen
   not-open = named-same _ _ _ (view w i) (openFor m i log) its-tells (nameIn m) ∙ not-same (openFor m i log) unlike
 
-  none-larger : larger m (view w i .sender) ≡ false
-  none-larger = larger-same _ _ _ (view w i) (openFor m i log) its-tells (nameIn m) ∙ may .none-larger
+  none-newer : newerOpen m (view w i .sender) ≡ false
+  none-newer = newer-same _ _ _ (view w i) (openFor m i log) its-tells (nameIn m) ∙ may .none-newer
 
   abbrev last : Name
   last = lastOf (m .address) (deliveries log)
@@ -321,7 +321,7 @@ module _ (q : Setup) (log : List Exchange) (w : World) (a : Agrees q log w) (m :
   on-its-way = record {
     agrees = a;
     own = λ p among version number. absurd (unlike p among version number);
-    phase = inl (subst (λ (l : Last). Unfinished m l (λ d. ⊥) (view w i .sender)) (its-tells .same-last) (phase-start m cuttable (view w i .sender) none-larger not-open));
+    phase = inl (subst (λ (l : Last). Unfinished m l (λ d. ⊥) (view w i .sender)) (its-tells .same-last) (phase-start m cuttable (view w i .sender) none-newer not-open));
   }
 
   -- The inner theorem: something else of that sender may come between, if it is refused.

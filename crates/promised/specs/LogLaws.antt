@@ -36,7 +36,7 @@ use Rattle.promised.specs.Join.{Kin, kinOf}
 use Rattle.promised.specs.JoinLaws.{kinIn, Inv, before-both, next-inv}
 use Rattle.promised.specs.Judged.{sentFrom}
 use Rattle.promised.specs.Log.{Name, nameOf, sameMessage, acceptedWith, openAfter, isOpen}
-use Rattle.promised.specs.Says.{isLarger, piecesIn}
+use Rattle.promised.specs.Says.{newerIsOpen, piecesIn}
 use Rattle.promised.specs.View.{View, numberOf, outcomeView, put, nextView, tickView}
 
 -- ---- what is kept of a sender, and what is said of it
@@ -74,10 +74,10 @@ module _ (last : Name) (now : ℕ) (stamp : ℕ) (v : View) where
       let k = open-kin q packets t in
       rw (t .same-open, ← ap (λ (x : Kin). x .version) k, ← ap (λ (x : Kin). x .number) k)
 
-  pub larger-same : (packets : List (List ℕ)) → Tells last now packets stamp v → (n : Name)
-      → s .«open» && eqb (s .message .version .0) (n .version .0) && newer (s .message .number) (n .number) ≡ isLarger packets n
-  larger-same [] t n = rw (t .same-open)
-  larger-same (q ∷ packets) t n =
+  pub newer-same : (packets : List (List ℕ)) → Tells last now packets stamp v → (n : Name)
+      → s .«open» && eqb (s .message .version .0) (n .version .0) && newer (s .message .number) (n .number) ≡ newerIsOpen packets n
+  newer-same [] t n = rw (t .same-open)
+  newer-same (q ∷ packets) t n =
       let k = open-kin q packets t in
       rw (t .same-open, ← ap (λ (x : Kin). x .version) k, same-number (sym (ap (λ (x : Kin). x .number) k)))
 

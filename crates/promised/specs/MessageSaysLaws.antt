@@ -49,7 +49,7 @@ use Rattle.promised.specs.JoinLaws.{kinIn, kin-same}
 use Rattle.promised.specs.JudgedLaws.{message-length, message-head}
 use Rattle.promised.specs.KeptLaws.{TellsLog, refused-told, refused-above}
 use Rattle.promised.specs.Log.{Exchange, timeOf, Name, noName, nameOf, deliveries, lastOf, sameMessage, acceptedWith, openOf, stampOf}
-use Rattle.promised.specs.LogLaws.{Tells, open-kin, larger-same, rejoins-same, fills-count, held-with}
+use Rattle.promised.specs.LogLaws.{Tells, open-kin, newer-same, rejoins-same, fills-count, held-with}
 use Rattle.promised.specs.SafeLaws.{from-accepted, joined-part}
 use Rattle.promised.specs.Says.{sendersOf, placeOf, differs, hasPiece, octetsOf, laterRows, rowsFor, droppedName, liesIn, verdictAfter, messageSays}
 use Rattle.promised.specs.SaysLaws.{place-is, place-holds, accepted-setup, held-is}
@@ -105,7 +105,7 @@ module _ (last : Name) (now : ℕ) (packets : List (List ℕ)) (stamp : ℕ) (v 
       rows-on 15 _ _ _ _ mode (λ _.
       rows-on 16 _ _ _ _ refl (λ is.
       rows-on 17 _ _ _ _ (ap (λ (l : Last). isRepeat (check (q .n1) (l .version) (l .number) (h .given .version) (h .given .number))) (t .same-last)) (λ _.
-      rows-on 18 _ _ _ _ (larger-same last now stamp v packets t (nameOf p)) (λ _.
+      rows-on 18 _ _ _ _ (newer-same last now stamp v packets t (nameOf p)) (λ _.
       rows-on 19 _ _ _ _ differs-is (λ same.
       rows-on 20 _ _ _ _ (held-is-had (not-false (possible (h .cut)) is) same) (λ _. refl))))))
 

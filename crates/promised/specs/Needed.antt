@@ -25,7 +25,7 @@ use Rattle.rules.specs.pasts.Past.{World, Event, message, clock, aside, questio
 use Rattle.promised.specs.Delivery.{Sent, sentBy, PieceOf, nameIn, openFor, verdictFor, May, Between, OnlyPieces, Arrives, Once}
 use Rattle.promised.specs.Judged.{isFrom}
 use Rattle.promised.specs.Log.{Exchange, logged, calls}
-use Rattle.promised.specs.Says.{sendersOf, isLarger}
+use Rattle.promised.specs.Says.{sendersOf, newerIsOpen}
 
 -- ---- an example
 
@@ -86,7 +86,7 @@ Promise e = Arrives (sent e) (verdict e) (e .since) (e .piece) (outcome e) (part
 -- ---- the conditions, in the order of the demand
 
 pub data Condition : Type 0 where
-  registered length-within unit-within version-not-0 unheard no-repeat none-larger admits only-pieces kept : Condition
+  registered length-within unit-within version-not-0 unheard no-repeat none-newer admits only-pieces kept : Condition
 
 -- Of a packet of the sender nothing is asked.
 abbrev pub NoneAsked : List ℕ → MessageTold → Type 0
@@ -109,7 +109,7 @@ Fulfilled unheard e = (p : List ℕ) → List·Memᴰ (message p) (calls (log e)
 -- "the number check does not call it a repeat,"
 Fulfilled no-repeat e = isRepeat (verdict e) ≡ false
 -- "no larger number of that version is open for the sender,"
-Fulfilled none-larger e = isLarger (openFor (sent e) (e .place) (log e)) (nameIn (sent e)) ≡ false
+Fulfilled none-newer e = newerIsOpen (openFor (sent e) (e .place) (log e)) (nameIn (sent e)) ≡ false
 -- "the mode admits it,"
 Fulfilled admits e = eqb (sent e .mode) 1 && eqb (e .setup .mode) 0 ≡ false
 -- "nothing else of that sender comes between"
@@ -279,7 +279,7 @@ without unheard = oneOfTwo 2 (comes 8 100 (replicate 257 9) 1 ∷ []) [] 0 1
 -- "the number check does not call it a repeat": the number after it was delivered. 17, not delivered.
 without no-repeat = lone online 0 (comes 8 101 short 1 ∷ []) 17
 -- "no larger number of that version is open for the sender": the number after it is. 18, not delivered.
-without none-larger = lone online 0 (comes 8 101 long 1 ∷ []) 18
+without none-newer = lone online 0 (comes 8 101 long 1 ∷ []) 18
 -- "the mode admits it": `tested` at an online node. 15, not delivered.
 without admits = lone online 1 [] 15
 -- "nothing else of that sender comes between": the next message does, which drops the open one and is delivered. 17,

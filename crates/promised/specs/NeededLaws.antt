@@ -37,9 +37,9 @@ use Rattle.promised.specs.CameLaws.{decided, dec-by, dec-or, dec-true, d
 use Rattle.promised.specs.Delivery.{Sent, PieceOf, nameIn, openFor, verdictFor, May, Allowed, Between, OnlyPieces, OneApplies, is-last, is-one, came-before, all-came, Arrives, Once}
 use Rattle.promised.specs.Judged.{inOrder, isFrom}
 use Rattle.promised.specs.Log.{ToldOf, toldBy, Exchange, exchange, logged, calls, timeOf, deliveries, lastOf, sameMessage, openOf, stampOf}
-use Rattle.promised.specs.Needed.{Example, sent, packet, start, before, log, answersSince, verdict, finds, outcome, part, Promise, Condition, registered, length-within, unit-within, version-not-0, unheard, no-repeat, none-larger, admits, only-pieces, kept, NoneAsked, Fulfilled, Met, Needed, example, tested, without}
+use Rattle.promised.specs.Needed.{Example, sent, packet, start, before, log, answersSince, verdict, finds, outcome, part, Promise, Condition, registered, length-within, unit-within, version-not-0, unheard, no-repeat, none-newer, admits, only-pieces, kept, NoneAsked, Fulfilled, Met, Needed, example, tested, without}
 use Rattle.promised.specs.PastSaysLaws.{says-is, agrees-after, log-is}
-use Rattle.promised.specs.Says.{sendersOf, firstPlace, isLarger, hasPiece, octetsOf, messageSays, mapOf, clockSays, says, logOf}
+use Rattle.promised.specs.Says.{sendersOf, firstPlace, newerIsOpen, hasPiece, octetsOf, messageSays, mapOf, clockSays, says, logOf}
 
 -- ---- decisions that compute
 
@@ -181,8 +181,8 @@ decide unit-within e l is = dec-true (within 256 1396 (e .u))
 decide version-not-0 e l is = Dec·not (dec-eq (sent e .version .0) 0)
 decide unheard e l is = dec-at (λ k. Each (Other e) (calls k)) (log e) l is (dec-each (Other e) (dec-other e) (calls l))
 decide no-repeat e l is = dec-at (λ k. isRepeat (verdictFor (e .setup) k (sent e)) ≡ false) (log e) l is (dec-false (isRepeat (verdictFor (e .setup) l (sent e))))
-decide none-larger e l is = dec-at (λ k. isLarger (openFor (sent e) (e .place) k) (nameIn (sent e)) ≡ false) (log e) l is
-    (dec-false (isLarger (openFor (sent e) (e .place) l) (nameIn (sent e))))
+decide none-newer e l is = dec-at (λ k. newerIsOpen (openFor (sent e) (e .place) k) (nameIn (sent e)) ≡ false) (log e) l is
+    (dec-false (newerIsOpen (openFor (sent e) (e .place) l) (nameIn (sent e))))
 decide admits e l is = dec-false (eqb (sent e .mode) 1 && eqb (e .setup .mode) 0)
 decide only-pieces e l is = dec-each _ (λ p. dec-if (dec-true (isFrom (sent e .address) p)) (dec-some (sent e) p)) (e .since)
 decide kept e l is =
@@ -198,7 +198,7 @@ failing e l is (y ∷ ys) = ite (decide y e l is) (failing e l is ys) (y ∷ fai
 
 conditions : List Condition
 conditions =
-    registered ∷ length-within ∷ unit-within ∷ version-not-0 ∷ unheard ∷ no-repeat ∷ none-larger ∷ admits ∷ only-pieces ∷ kept ∷ []
+    registered ∷ length-within ∷ unit-within ∷ version-not-0 ∷ unheard ∷ no-repeat ∷ none-newer ∷ admits ∷ only-pieces ∷ kept ∷ []
 
 -- Whether what comes is the piece, which conditions fail, what is promised and what is answered, and whether that is
 -- the same.
@@ -263,7 +263,7 @@ without-computed unit-within = refl
 without-computed version-not-0 = refl
 without-computed unheard = refl
 without-computed no-repeat = refl
-without-computed none-larger = refl
+without-computed none-newer = refl
 without-computed admits = refl
 without-computed only-pieces = refl
 without-computed kept = refl
@@ -286,7 +286,7 @@ in-conditions y = place y
     place version-not-0 = nth conditions 3 (omega arith)
     place unheard = nth conditions 4 (omega arith)
     place no-repeat = nth conditions 5 (omega arith)
-    place none-larger = nth conditions 6 (omega arith)
+    place none-newer = nth conditions 6 (omega arith)
     place admits = nth conditions 7 (omega arith)
     place only-pieces = nth conditions 8 (omega arith)
     place kept = nth conditions 9 (omega arith)
@@ -380,7 +380,7 @@ module _ (e : Example) where
     unit-within = h unit-within;
     unheard = h unheard;
     no-repeat = h no-repeat;
-    none-larger = h none-larger;
+    none-newer = h none-newer;
     admits = h admits;
   }
 
@@ -393,7 +393,7 @@ module _ (e : Example) where
   asked-conditions version may between version-not-0 = version
   asked-conditions version may between unheard = may .unheard
   asked-conditions version may between no-repeat = may .no-repeat
-  asked-conditions version may between none-larger = may .none-larger
+  asked-conditions version may between none-newer = may .none-newer
   asked-conditions version may between admits = may .admits
   asked-conditions version may between only-pieces = between-each (sent e) (e .place) (log e) (e .since) (answersSince e) between
   asked-conditions version may between kept =

@@ -26,13 +26,13 @@ use Rattle.rules.specs.calls.Admit.{fills, mapAfter, verdictOf, messageAfter, o
 use Rattle.rules.specs.calls.Clock.{drops, aged}
 use Rattle.promised.specs.JoinLaws.{kinIn}
 use Rattle.promised.specs.Delivery.{Sent, count, Numbered, PieceOf}
-use Rattle.promised.specs.PieceLaws.{Cuttable, kinFor, first-numbered, piece-kin, piece-on-ring, isOpen, verdictBy, mapOf, larger, verdict-is, number-again, number-new, map-is, fills-is}
+use Rattle.promised.specs.PieceLaws.{Cuttable, kinFor, first-numbered, piece-kin, piece-on-ring, isOpen, verdictBy, mapOf, newerOpen, verdict-is, number-again, number-new, map-is, fills-is}
 use Rattle.promised.specs.View.{View, joining, numberOf, outcomeView, put, nextView}
 
 -- Pieces are missing. C is which pieces came; the check still says what it said of the last number at the start.
 pub record Unfinished (m : Sent) (last : Last) (C : ℕ → Type 0) (s : Sender) : Type 0 where
   pub same-last : s .last ≡ last
-  pub none-larger : larger m s ≡ false
+  pub none-newer : newerOpen m s ≡ false
   pub kin : isOpen m s ≡ true → kinIn (s .message) ≡ kinFor m
   pub room : mapOf m s < 2 ^ count m
   pub missing : mapOf m s ≢ fullMap (count m)
@@ -52,7 +52,7 @@ Phase m last C s = Unfinished m last C s ⊎ Finished m C s
 pub phase-same : (m : Sent) (last : Last) (C D : ℕ → Type 0) (s : Sender) → ((d : ℕ) → C d → D d) → ((d : ℕ) → D d → C d) → Phase m last C s → Phase m last D s
 phase-same m last C D s to back (inl f) = inl (record {
   same-last = f .same-last;
-  none-larger = f .none-larger;
+  none-newer = f .none-newer;
   kin = f .kin;
   room = f .room;
   missing = f .missing;
@@ -62,13 +62,13 @@ phase-same m last C D s to back (inl f) = inl (record {
 phase-same m last C D s to back (inr f) = inr (record { all = λ d numbered. to d (f .all d numbered); last-is = f .last-is; shut = f .shut })
 
 -- Before any came.
-pub phase-start : (m : Sent) → Cuttable m → (s : Sender) → larger m s ≡ false → isOpen m s ≡ false → Unfinished m (s .last) (λ d. ⊥) s
+pub phase-start : (m : Sent) → Cuttable m → (s : Sender) → newerOpen m s ≡ false → isOpen m s ≡ false → Unfinished m (s .last) (λ d. ⊥) s
 phase-start m k s none shut =
     let some : 1 ≤ count m = first-numbered m k .1 in
     let empty : mapOf m s ≡ 0 = rw shut in
     record {
       same-last = refl;
-      none-larger = none;
+      none-newer = none;
       kin = λ o. absurd (never-both o shut);
       room = rw empty (pow-pos (count m));
       missing = λ z. omega (arith, empty, pow-lt {i = 0} {j = count m} some);
@@ -93,7 +93,7 @@ module _ (g : Settings) (m : Sent) (k : Cuttable m) (admits : eqb (m .mode) 1 &&
 
   module _ (f : Unfinished m last C s) where
     number : numberOf g v p ≡ cond (holds (mapOf m s) c) 20 0
-    number = number-new (g .test) (g .n1) m k admits s c p is (rw (f .same-last) new) (f .none-larger) (f .kin)
+    number = number-new (g .test) (g .n1) m k admits s c p is (rw (f .same-last) new) (f .none-newer) (f .kin)
 
     number-held : C c → numberOf g v p ≡ 20
     number-held e = number ∙ rw (f .held c (is .numbered) e)
@@ -153,7 +153,7 @@ module _ (g : Settings) (m : Sent) (k : Cuttable m) (admits : eqb (m .mode) 1 &&
           let number = eq-eqb (h .given .number .0) (m .number .0) (is .number) in
           record {
             same-last = f .same-last;
-            none-larger = rw (version, same-number (is .number)) (not-newer (m .number) (piece-on-ring m k c p is));
+            none-newer = rw (version, same-number (is .number)) (not-newer (m .number) (piece-on-ring m k c p is));
             kin = λ o. piece-kin m k c p is;
             room = rw (version, number, after) grown-room;
             missing = rw (version, number, after) ne;
@@ -266,7 +266,7 @@ module _ (m : Sent) (last : Last) (C : ℕ → Type 0) (t now : ℕ) (s : Sender
     unfolding aged
     dropped-phase (inl f) = inl (record {
       same-last = f .same-last;
-      none-larger = rw shut;
+      none-newer = rw shut;
       kin = λ o. absurd (never-both o (unfold isOpen in rw shut));
       room = rw (← no-map) (f .room);
       missing = rw (← no-map) (f .missing);

@@ -131,8 +131,8 @@ abbrev pub mapOf : Sent → Sender → ℕ
 mapOf m s = cond (isOpen m s) (s .message .map) 0
 
 -- A larger number of its version is open.
-abbrev pub larger : Sent → Sender → Bool
-larger m s = s .«open» && eqb (s .message .version .0) (m .version .0) && newer (s .message .number) (m .number)
+abbrev pub newerOpen : Sent → Sender → Bool
+newerOpen m s = s .«open» && eqb (s .message .version .0) (m .version .0) && newer (s .message .number) (m .number)
 
 same-cut : (m : Message) (p : List ℕ) → kinIn m ≡ kinOf p → sameCut m (headOf p) ≡ true
 unfolding sameCut
@@ -170,7 +170,7 @@ module _ (test : Bool) (n1 : ℕ) (m : Sent) (k : Cuttable m) (admits : eqb (m .
   number-again e = rw (fits-mode, piece-possible m k c p is, verdict-is, e)
 
   -- Before that, 20 where the piece is held, and no number where it is not.
-  pub number-new : isRepeat (verdictBy n1 m (s .last)) ≡ false → larger m s ≡ false → (isOpen m s ≡ true → kinIn (s .message) ≡ kinFor m)
+  pub number-new : isRepeat (verdictBy n1 m (s .last)) ≡ false → newerOpen m s ≡ false → (isOpen m s ≡ true → kinIn (s .message) ≡ kinFor m)
       → first (senderRows test n1 s h) ≡ cond (holds (mapOf m s) c) 20 0
   unfolding senderRows first
   number-new new none kin =

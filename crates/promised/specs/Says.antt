@@ -41,9 +41,9 @@ placeOf l a = firstPlace (λ i. sameAddress (given l i) a) (length l)
 -- ---- the message call
 
 -- The open message "has the same version and a larger number".
-abbrev pub isLarger : List (List ℕ) → Name → Bool
-isLarger [] name = false
-isLarger (p ∷ packets) name = eqb (headOf p .given .version .0) (name .version .0) && newer (headOf p .given .number) (name .number)
+abbrev pub newerIsOpen : List (List ℕ) → Name → Bool
+newerIsOpen [] name = false
+newerIsOpen (p ∷ packets) name = eqb (headOf p .given .version .0) (name .version .0) && newer (headOf p .given .number) (name .number)
 
 -- "TCD, n, TBN or u differ" from those of the open message.
 abbrev pub differs : List (List ℕ) → List ℕ → Bool
@@ -71,7 +71,7 @@ laterRows q verdict packets packet =
     -- "number check says repeat"
     ∷ row 17 (isRepeat verdict)
     -- "open message has the same version and a larger number"
-    ∷ row 18 (isLarger packets (nameOf packet))
+    ∷ row 18 (newerIsOpen packets (nameOf packet))
     -- "same version and number, but TCD, n, TBN or u differ"
     ∷ row 19 (sameMessage packets (nameOf packet) && differs packets packet)
     -- "piece already held (octets not compared)"

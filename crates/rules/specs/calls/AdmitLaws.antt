@@ -103,8 +103,8 @@ pub drops-or-joins : (n1 : ℕ) (s : Sender) (h : Head) → Admitted n1 s h → 
 unfolding droppedBy rejoins
 drops-or-joins n1 s h a mine its = by (s .«open») (sameVersion s h) (a .not-older) (one-order (h .given .number) (s .message .number) its mine)
   where
-    larger : Bool
-    larger = newer (h .given .number) (s .message .number)
+    comesNewer : Bool
+    comesNewer = newer (h .given .number) (s .message .number)
 
     equal : Bool
     equal = eqb (s .message .number .0) (h .given .number .0)
@@ -113,7 +113,7 @@ drops-or-joins n1 s h a mine its = by (s .«open») (sameVersion s h) (a .not-ol
     dropped = record { version = s .message .version; number = s .message .number }
 
     by : (o v : Bool) → o && v && newer (s .message .number) (h .given .number) ≡ false → Order (h .given .number) (s .message .number)
-        → cond (o && (not v || (v && larger))) dropped noneDropped ≡ cond (o && not (o && v && equal)) dropped noneDropped
+        → cond (o && (not v || (v && comesNewer))) dropped noneDropped ≡ cond (o && not (o && v && equal)) dropped noneDropped
     by false v e order = refl
     by true false e order = refl
     by true true e (same q f g) = rw (f, eq-eqb (s .message .number .0) (h .given .number .0) (sym q))

@@ -339,8 +339,8 @@ listings n1-as-given =
     ∷ past (one 0 1024 15000) ((lone 7 5 2000 1, delivered 1 (1 ∷ [])) ∷ (lone 7 5 977 4, refused 17) ∷ (lone 7 5 976 5, gap 2147482622 (5 ∷ [])) ∷ [])
     ∷ []
 -- "The lowest number that applies is given.": too short and all wrong; SEQ 0 of node 9; a test message of node 9; a
--- test message whose cut is not possible; number 100 again, its cut not possible; number 100 again under an open 110; a
--- smaller number, its piece held; another n, its piece held; its piece held.
+-- test message whose cut is not possible; number 100 again, its cut not possible; number 100 again under an open 110; an
+-- older number, its piece held; another n, its piece held; its piece held.
 listings lowest-number =
     past raft
     ((lone 7 5 100 1, delivered 1 (1 ∷ []))
