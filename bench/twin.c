@@ -7,6 +7,7 @@
 #include <string.h>
 
 #define M 2147483647u
+#define HALF 1073741823u
 #define CLOCK_MOST 1099511627776ull
 
 /* where the fields of the header stand */
@@ -163,13 +164,19 @@ static inline bool possible(const uint8_t *packet, size_t size, struct cut *c) {
     return is_unit(c->u) && 1 <= p && p <= c->u;
 }
 
+/* How far back `this` lies behind `last` on the ring 1 to M. */
+static inline uint32_t back_of(uint32_t last, uint32_t this) {
+    last %= M;
+    this %= M;
+    return last >= this ? last - this : last + M - this;
+}
+
 static inline enum verdict number_check(const struct receiver *r, const struct sender *s, uint32_t version, uint32_t number, uint32_t *skipped) {
     *skipped = 0;
     if (version == 0 && number == 1) return UNCHECKED;
     if (s->last_version == 0) return FIRST;
     if (version != s->last_version) return RESTART;
-    uint32_t last = s->last_number % M, this = number % M;
-    uint32_t back = last >= this ? last - this : last + M - this;
+    uint32_t back = back_of(s->last_number, number);
     if (back < r->n1) return REPEAT;
     if (back == M - 1) return NEXT;
     *skipped = M - 1 - back;
@@ -194,8 +201,7 @@ static inline uint8_t sender_number(const struct receiver *r, const struct sende
     a->verdict = number_check(r, s, version, number, &a->skipped);
     if (a->verdict == REPEAT) return 17;
     if (!s->open || m->version != version) return 0;
-    if (number < m->number) return 18;
-    if (number != m->number) return 0;
+    if (number != m->number) return back_of(m->number, number) <= HALF ? 18 : 0;
     if (m->tcd != read2(packet + TCD) || m->n != c->n || m->tbn != c->tbn || m->u != c->u) return 19;
     return m->map >> (c->cbn - 1) & 1 ? 20 : 0;
 }

@@ -2,6 +2,11 @@
 
 use std::collections::BTreeMap;
 
+use crate::rounds::came_round;
+
+/// How often each kind of line occurred with each number.
+type Counts = BTreeMap<(char, u64), u64>;
+
 /// Reads printed lines, of a run or of the edges, and gives "KIND NUMBER COUNT"
 /// lines, sorted. The kinds are the lines' own letters (A, C, E, F, G, K, P, Q, S,
 /// Z) and V for the verdict of a P line; F is counted under its `next`, E, which
@@ -9,17 +14,33 @@ use std::collections::BTreeMap;
 /// parts, of messages and of sections (#, W, w, H, k, R, B, L, O), bear no answer's
 /// number and are passed over.
 pub fn counts(lines: &str) -> Result<String, String> {
-    let mut counts: BTreeMap<(char, u64), u64> = BTreeMap::new();
+    Ok(written(&counted(lines)?))
+}
+
+/// The same with the fields that the lines are of, and with one kind more: N for
+/// numbers that came round, under the answer of the message call.
+pub fn counts_of_calls(fields: &[u8], lines: &str) -> Result<String, String> {
+    let mut counts = counted(lines)?;
+    for answer in came_round(fields, lines)? {
+        *counts.entry(('N', answer)).or_default() += 1;
+    }
+    Ok(written(&counts))
+}
+
+fn counted(lines: &str) -> Result<Counts, String> {
+    let mut counts = Counts::new();
     for (at, line) in lines.lines().enumerate() {
         let kinds = kinds_of(line).ok_or(format!("line {}: not a line: {line:?}", at + 1))?;
         for kind in kinds {
             *counts.entry(kind).or_default() += 1;
         }
     }
-    let written = counts
-        .iter()
-        .map(|((kind, number), count)| format!("{kind} {number} {count}\n"));
-    Ok(written.collect())
+    Ok(counts)
+}
+
+fn written(counts: &Counts) -> String {
+    let line = |((kind, number), count): (&(char, u64), &u64)| format!("{kind} {number} {count}\n");
+    counts.iter().map(line).collect()
 }
 
 /// What one line counts for; None where it is not one of the program's lines.
@@ -94,6 +115,19 @@ mod tests {
                      L 0 0\nO 5 9\nZ 0 20 9 7\nZ 23 0 7 9\nZ 24 0 7 9\nZ 24 0 7 9\n";
         let expected = "G 0 1\nG 24 1\nZ 0 1\nZ 23 1\nZ 24 2\n";
         assert_eq!(counts(lines).unwrap(), expected);
+    }
+
+    #[test]
+    fn counts_numbers_that_came_round() {
+        let whole = "pdu field=1 node=7 version=5 seq=1 n=10\n";
+        let open = "pdu field=1 node=7 version=5 seq=2147483647 n=300 u=256\n";
+        let text = ["setup online senders=1:7\n", open, whole].concat();
+        let capture = crate::text::capture_of(&text).unwrap();
+        let lines = "S 0\nP 0 0 1 0\nP 1 1 0 10\n";
+        let expected = "N 1 1\nP 0 1\nP 1 1\nS 0 1\nV 0 1\nV 1 1\n";
+        assert_eq!(counts_of_calls(&capture, lines).unwrap(), expected);
+        assert!(counts_of_calls(&capture, "S 0\n").is_err());
+        assert_eq!(counts(lines).unwrap(), expected[6..]);
     }
 
     #[test]

@@ -19,6 +19,7 @@ pub mod numbers;
 pub mod octets;
 pub mod random;
 pub mod receiver;
+mod rounds;
 mod scenes;
 mod section_text;
 mod sections;

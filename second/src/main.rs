@@ -13,7 +13,7 @@ const USAGE: &str = "usage: second run < capture
        second edges-calls > calls
        second edges-random SEED COUNT
        second edges-random-calls SEED COUNT > calls
-       second tally < lines
+       second tally [CALLS] < lines
 ";
 
 fn main() -> ExitCode {
@@ -38,6 +38,9 @@ fn main() -> ExitCode {
         ["edges-calls"] => output(&edges::calls_as_fields()),
         ["tally"] => input_text()
             .and_then(|lines| counts::counts(&lines))
+            .and_then(|counts| output(counts.as_bytes())),
+        ["tally", calls] => file(calls)
+            .and_then(|calls| counts::counts_of_calls(&calls, &input_text()?))
             .and_then(|counts| output(counts.as_bytes())),
         _ => return usage(),
     };
@@ -70,6 +73,10 @@ fn input() -> Result<Vec<u8>, String> {
         Ok(_) => Ok(octets),
         Err(why) => Err(format!("standard input: {why}")),
     }
+}
+
+fn file(name: &str) -> Result<Vec<u8>, String> {
+    std::fs::read(name).map_err(|why| format!("{name}: {why}"))
 }
 
 fn input_text() -> Result<String, String> {

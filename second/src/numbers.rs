@@ -1,5 +1,6 @@
-//! Versions and sequence numbers: the ring 1 to M, the number check with its
-//! four rules, the verdict and the skipped count (D.3.1.3, Table 14).
+//! Versions and sequence numbers: the ring 1 to M, which of two numbers is newer,
+//! the number check with its four rules, the verdict and the skipped count
+//! (D.3.1.3, Table 14).
 
 /// 01: "SEQ is 1 to M, where M = 2,147,483,647."
 pub const M: u32 = 2_147_483_647;
@@ -9,10 +10,18 @@ pub fn seq_right(seq: u32) -> bool {
     (1..=M).contains(&seq)
 }
 
-/// 01, Joining: "the same version and a larger number". Every comparison of
-/// two sequence numbers by size is made here.
+/// 02: "1 to 1,073,741,823", the steps that a newer number is on. M is odd, so that
+/// there are as many of them as of the others, 1,073,741,824 to M - 1: of two
+/// different numbers exactly one is newer.
+pub const NEWER_MOST: u32 = 1_073_741_823;
+
+/// 02: "Correct 01: with the same version, the newcomer is newer when (SEQ - open
+/// SEQ) modulo M is 1 to 1,073,741,823, and older when it is larger. [...] Cases:
+/// open M, 1 comes: replaced. Open 1, M comes: 18." No other place asks which of
+/// two sequence numbers came later.
 pub fn newer(seq: u32, than: u32) -> bool {
-    seq > than
+    let on = remainder_by_m(i64::from(seq) - i64::from(than));
+    (1..=NEWER_MOST).contains(&on)
 }
 
 /// What the number check says.
@@ -200,10 +209,74 @@ mod tests {
     }
 
     #[test]
-    fn seq_and_newer_on_both_sides() {
+    fn seq_on_both_sides() {
         assert!(!seq_right(0) && seq_right(1) && seq_right(M) && !seq_right(M + 1));
-        assert!(newer(2, 1) && !newer(1, 1) && !newer(1, 2));
-        assert!(newer(M, 1) && !newer(1, M));
+    }
+
+    /// "Cases: open M, 1 comes: replaced. Open 1, M comes: 18."
+    #[test]
+    fn newer_around_the_end_of_the_ring() {
+        assert!(newer(1, M) && !newer(M, 1));
+        assert!(newer(2, 1) && !newer(1, 2));
+        assert!(newer(M, M - 1) && !newer(M - 1, M));
+        assert!(newer(1, M - 1) && newer(2, M - 1) && newer(2, M));
+        assert!(!newer(M - 1, 1) && !newer(M - 1, 2) && !newer(M, 2));
+        assert!(newer(113, M) && !newer(M, 113));
+    }
+
+    /// An open number, the one 1,073,741,823 on and the one 1,073,741,824 on, added
+    /// by hand; past M the sum is taken by 2,147,483,647.
+    const HALF_ON: [(u32, u32, u32); 9] = [
+        // Below M.
+        (1, 1_073_741_824, 1_073_741_825),
+        (100, 1_073_741_923, 1_073_741_924),
+        (1_000_000_000, 2_073_741_823, 2_073_741_824),
+        // M - 1, M, 1 and 2.
+        (1_073_741_823, 2_147_483_646, 2_147_483_647),
+        (1_073_741_824, 2_147_483_647, 1),
+        (1_073_741_825, 1, 2),
+        // Past M.
+        (2_000_000_000, 926_258_176, 926_258_177),
+        (2_147_483_646, 1_073_741_822, 1_073_741_823),
+        (2_147_483_647, 1_073_741_823, 1_073_741_824),
+    ];
+
+    #[test]
+    fn newer_on_both_sides_of_the_half() {
+        for (open, last_newer, first_older) in HALF_ON {
+            assert!(newer(last_newer, open), "open {open}, {last_newer} comes");
+            assert!(
+                !newer(first_older, open),
+                "open {open}, {first_older} comes"
+            );
+            // The other way about: 1,073,741,823 and 1,073,741,824 back.
+            assert!(!newer(open, last_newer), "open {last_newer}, {open} comes");
+            assert!(newer(open, first_older), "open {first_older}, {open} comes");
+        }
+    }
+
+    #[test]
+    fn of_two_different_numbers_exactly_one_is_newer() {
+        let ends = [1, 2, 3, 16, 17, 2_147_483_645, 2_147_483_646, M];
+        let halves = HALF_ON
+            .map(|(open, one, other)| [open, one, other])
+            .concat();
+        let numbers = [&ends[..], &halves].concat();
+        for one in &numbers {
+            for other in &numbers {
+                let newer_ones = [newer(*one, *other), newer(*other, *one)];
+                let count = newer_ones.iter().filter(|newer| **newer).count();
+                assert_eq!(count, usize::from(one != other), "{one} and {other}");
+            }
+        }
+    }
+
+    /// A third of M is 715,827,882 and a third.
+    #[test]
+    fn three_numbers_each_newer_than_the_one_before() {
+        let (one, two, three) = (1, 715_827_883, 1_431_655_765);
+        assert!(newer(two, one) && newer(three, two) && newer(one, three));
+        assert!(!newer(one, two) && !newer(two, three) && !newer(three, one));
     }
 
     #[test]

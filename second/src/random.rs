@@ -148,20 +148,20 @@ fn cut_field(dice: &mut Dice) -> Vec<u8> {
 #[cfg(test)]
 mod tests {
     use super::*;
-    use crate::counts::counts;
+    use crate::counts::counts_of_calls;
     use crate::fields::run;
     use std::collections::BTreeSet;
 
-    /// Every answer of each kind of line, and every verdict, that the program
-    /// can give (9, 11 and 23 can't be reached through it).
-    const REACHED: [&str; 28] = [
+    /// Every answer of each kind of line, every verdict, that the program can give
+    /// (9, 11 and 23 can't be reached through it), and numbers that came round.
+    const REACHED: [&str; 31] = [
         "S 0", "S 10", "P 0", "P 1", "P 12", "P 13", "P 14", "P 15", "P 16", "P 17", "P 18",
         "P 19", "P 20", "C 0", "C 21", "A 0", "A 12", "A 13", "A 14", "A 22", "A 24", "V 0", "V 1",
-        "V 2", "V 3", "V 4", "V 5", "C drop",
+        "V 2", "V 3", "V 4", "V 5", "N 0", "N 1", "N 18", "C drop",
     ];
 
-    fn reached_by(lines: &str) -> BTreeSet<String> {
-        let counted = counts(lines).unwrap();
+    fn reached_by(capture: &[u8], lines: &str) -> BTreeSet<String> {
+        let counted = counts_of_calls(capture, lines).unwrap();
         let mut reached: BTreeSet<String> = counted
             .lines()
             .map(|line| line.rsplit_once(' ').unwrap().0.to_string())
@@ -176,9 +176,10 @@ mod tests {
     #[test]
     fn every_number_and_verdict_is_reached_by_any_seed() {
         for seed in [0, 1, 2, 3, 4, 5, 6, 7, 99, 2024, u64::MAX] {
-            let lines = run(&capture(seed, 5000));
+            let capture = capture(seed, 5000);
+            let lines = run(&capture);
             assert_eq!(lines.lines().count(), 5000, "seed {seed}");
-            let reached = reached_by(&lines);
+            let reached = reached_by(&capture, &lines);
             let expected: BTreeSet<String> = REACHED.iter().map(|s| s.to_string()).collect();
             assert_eq!(reached, expected, "seed {seed}");
         }

@@ -99,7 +99,7 @@ fn refusal(receiver: &Receiver, storage: usize, arrival: &Arrival) -> Option<u8>
         (16, arrival.cut.is_none()),
         // "number check says repeat"
         (17, of_sender(&|s| repeat(s, head, receiver.n1))),
-        // "open message has the same version and a larger number"
+        // "open message has the same version and a", by 02, newer "number"
         (18, of_sender(&|s| older_than_open(s, head))),
         // "same version and number, but TCD, n, TBN or u differ"
         (19, of_sender(&|s| unlike_open(s, arrival))),
@@ -141,7 +141,9 @@ fn repeat(sender: &Sender, head: &Head, n1: u16) -> bool {
     check(sender, head, n1) == Check::Repeat
 }
 
-/// "18 | open message has the same version and a larger number".
+/// "18 | open message has the same version and a larger number", where 02 corrects
+/// 01: a newer one. "Demand 3 then reads "no newer number of that version is
+/// open"."
 fn older_than_open(sender: &Sender, head: &Head) -> bool {
     let open = &sender.message;
     sender.open && open.version == head.version && newer(open.seq, head.seq)
@@ -229,8 +231,9 @@ fn admit_piece(
 }
 
 /// 01: "Another version than the open one, or the same version and a larger
-/// number: the open message is dropped, its version and number stand in the
-/// answer (both 0 if none; not printed), and the new one opens."
+/// number", by 02 a newer one: "the open message is dropped, its version and
+/// number stand in the answer (both 0 if none; not printed), and the new one
+/// opens." An older one of the same version never comes here (18).
 fn drop_other(sender: &mut Sender, head: &Head) -> (u32, u32) {
     if !sender.open || same_message(sender, head) {
         return (0, 0);

@@ -5,7 +5,7 @@ use crate::alive;
 use crate::cut::{cut_piece, pieces, HeaderValues};
 use crate::dice::Dice;
 use crate::header::{self, Head, Place, HEADER};
-use crate::numbers::M;
+use crate::numbers::{M, NEWER_MOST};
 use crate::octets;
 use crate::sections::{broken_section, good_section};
 use crate::stage::Stage;
@@ -15,7 +15,7 @@ use crate::state::{Sender, Setup, CLOCK_MOST};
 pub type Scene = fn(&mut dyn Stage);
 
 /// The deck. A scene that stands twice is played twice as often.
-pub const SCENES: [Scene; 33] = [
+pub const SCENES: [Scene; 37] = [
     new_setup,
     new_setup,
     refused_setup,
@@ -34,6 +34,10 @@ pub const SCENES: [Scene; 33] = [
     newer_drops,
     other_version_drops,
     older_refused,
+    came_round,
+    came_round,
+    half_the_ring,
+    half_the_ring,
     unlike_open,
     held_twice,
     dropped_by_clock,
@@ -519,6 +523,58 @@ fn older_refused(stage: &mut dyn Stage) {
     }
     for piece in pieces {
         send(stage, &opened, piece);
+    }
+}
+
+/// 02: "Cases: open M, 1 comes: replaced. Open 1, M comes: 18."
+fn came_round(stage: &mut dyn Stage) {
+    for _ in 0..2 {
+        let first = stage.dice().one_of(&[M - 2, M - 1, M, 1, 2, 3]);
+        newcomers(stage, first, |dice| {
+            let steps = dice.between(1, 5);
+            dice.one_of(&[steps, u64::from(M) - steps])
+        });
+    }
+}
+
+/// 02: "newer when (SEQ - open SEQ) modulo M is 1 to 1,073,741,823, and older when
+/// it is larger."
+fn half_the_ring(stage: &mut dyn Stage) {
+    let most = NEWER_MOST;
+    for _ in 0..2 {
+        let any = any_seq(stage.dice());
+        let first = stage
+            .dice()
+            .one_of(&[any, any, most, most + 1, most + 2, M]);
+        newcomers(stage, first, |dice| {
+            let most = u64::from(NEWER_MOST);
+            let beside = dice.between(most - 2, most + 3);
+            dice.one_of(&[most, most + 1, beside])
+        });
+    }
+}
+
+/// Opens a message under a version that the sender did not have, or under version
+/// 0, so that no number is a repeat until one is delivered. Then others come, each
+/// so many steps on from the one that was open, and behind each a piece of that
+/// one: refused where it was dropped, joined where it stayed.
+fn newcomers(stage: &mut dyn Stage, first: u32, steps: fn(&mut Dice) -> u64) {
+    let at = settled(stage);
+    let fresh = fresh_version(stage, at);
+    let version = stage.dice().one_of(&[fresh, fresh, fresh, 0]);
+    let opened = plan(stage, at, version, first);
+    let mut opened = several(stage, opened);
+    send(stage, &opened, 1);
+    for _ in 0..3 {
+        let seq = after(opened.values.seq, steps(stage.dice()));
+        let newcomer = plan(stage, at, version, seq);
+        let newcomer = of_any_size(stage, newcomer);
+        send(stage, &newcomer, 1);
+        send(stage, &opened, opened.pieces());
+        let sender = sender_at(stage, at);
+        if sender.open && sender.message.seq == seq {
+            opened = newcomer;
+        }
     }
 }
 

@@ -86,6 +86,10 @@ fn fresh_is_written_where_it_is_made() {
         ["s", &"sP".repeat(6)].concat()
     );
     assert_eq!(
+        tags(&section("5.11 Around the end of the ring")),
+        ["s", &"sPPPQ".repeat(32)].concat()
+    );
+    assert_eq!(
         tags(&section("7.3 Two numbers at once")),
         ["s", &"sA".repeat(4)].concat()
     );

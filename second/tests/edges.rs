@@ -298,7 +298,8 @@ P 1 1 0 600 0 0 0",
     );
 }
 
-/// R is 102 behind the first one-piece message, so 112 skips 9.
+/// R is 102 behind the first one-piece message, so 112 skips 9. Open M, 113 comes:
+/// it is 113 on, and newer.
 #[test]
 fn drops() {
     expect(
@@ -318,8 +319,8 @@ P 18 0 0 0 0 0 0
 P 18 0 0 0 0 0 0
 P 1 4 0 10 9 5 110
 P 0 0 1 0 0 0 0
-P 18 0 0 0 0 0 0
 P 0 0 1 0 0 5 2147483647
+P 0 0 1 0 0 5 113
 P 1 5 0 300 0 0 0
 W 0 16 15000 0 2
 w 0 1 7 5 112 0 0 0 0 0 0 0 0 0 0 0 0 0
@@ -517,6 +518,247 @@ fn the_kept_count() {
         "S 10\nH 0\nH 0\nH 0\n",
     ];
     expect("5.8 The kept count", &parts.concat());
+}
+
+/// "open M, 1 comes: replaced. Open 1, M comes: 18." The second sender's 1 stands
+/// beside it. Of three pieces the second is bit 1: map 2.
+const M_AND_THEN_1: &str = "\
+P 0 0 1 0 0 0 0
+P 0 0 1 0 0 0 0
+P 0 0 1 0 0 5 2147483647
+W 0 16 15000 0 2
+w 0 1 7 0 0 1 5 1 1 600 3 256 2 1 0 0 0 0
+w 1 2 9 0 0 1 5 1 1 600 3 256 1 1 0 0 0 0
+P 18 0 0 0 0 0 0
+P 18 0 0 0 0 0 0
+P 18 0 0 0 0 0 0
+H 1
+H 1
+P 0 0 2 0 0 0 0
+P 1 1 0 600 0 0 0
+P 17 0 0 0 0 0 0
+W 0 16 15000 0 2
+w 0 1 7 5 1 0 0 0 0 0 0 0 0 0 0 0 0 0
+w 1 2 9 0 0 1 5 1 1 600 3 256 1 1 0 0 0 0
+";
+
+/// Two pieces of M are joined; behind 1 under version 6 it is a repeat.
+const DROPPED_BY_ONE_PIECE: &str = "\
+P 0 0 1 0 0 0 0
+P 0 0 1 0 0 6 2147483646
+P 0 0 2 0 0 0 0
+H 2
+P 1 3 0 10 0 6 2147483647
+H 0
+P 17 0 0 0 0 0 0
+";
+
+/// Behind M - 1 number 1 skips one, M. Behind M - 2 all four are next.
+const DELIVERED_OVER_THE_END: &str = "\
+P 1 3 0 10 0 0 0
+P 0 0 1 0 0 0 0
+P 0 0 1 0 0 7 2147483647
+P 1 4 0 300 1 0 0
+P 1 3 0 10 0 0 0
+P 0 0 1 0 0 0 0
+P 1 2 0 300 0 0 0
+P 0 0 1 0 0 0 0
+P 1 2 0 300 0 0 0
+P 0 0 1 0 0 0 0
+P 1 2 0 300 0 0 0
+P 0 0 1 0 0 0 0
+P 1 2 0 300 0 0 0
+W 0 16 15000 0 2
+w 0 1 7 8 2 0 0 0 0 0 0 0 0 0 0 0 0 0
+w 1 2 9 0 0 1 5 1 1 600 3 256 1 1 0 0 0 0
+";
+
+/// Each drops the one before; RV is 8, so that version 9 is a restart.
+const ANOTHER_VERSION: &str = "\
+P 0 0 1 0 0 0 0
+P 0 0 1 0 0 9 1
+P 0 0 1 0 0 10 2147483647
+P 0 0 1 0 0 9 1
+P 0 0 1 0 0 10 1073741824
+P 0 0 1 0 0 9 1
+P 0 0 1 0 0 10 1073741825
+P 0 0 1 0 0 9 1
+P 1 3 0 10 0 10 1
+";
+
+/// (0, 1) is unchecked and leaves RV and R, so that (0, M) opens again.
+const VERSION_0: &str = "\
+P 0 0 1 0 0 0 0
+P 0 0 1 0 0 0 2147483647
+P 18 0 0 0 0 0 0
+P 1 5 0 300 0 0 0
+P 0 0 1 0 0 0 0
+P 1 5 0 10 0 0 2147483647
+W 0 16 15000 0 2
+w 0 1 7 9 2147483647 0 0 0 0 0 0 0 0 0 0 0 0 0
+w 1 2 9 0 0 1 5 1 1 600 3 256 1 1 0 0 0 0
+";
+
+#[test]
+fn numbers_that_came_round() {
+    let parts = [
+        M_AND_THEN_1,
+        DROPPED_BY_ONE_PIECE,
+        DELIVERED_OVER_THE_END,
+        ANOTHER_VERSION,
+        VERSION_0,
+    ];
+    expect("5.9 Numbers that came round", &parts.concat());
+}
+
+/// What y is to the open x by 02. A newer one is close where x is a repeat behind
+/// its delivery.
+#[derive(Clone, Copy, Debug, PartialEq)]
+enum Comes {
+    Newer,
+    NewerAndClose,
+    Older,
+    Same,
+}
+
+/// With x open and y coming, of several pieces and then of one. Piece 3 of x is
+/// older than y, or its second, or its last where y is x; behind a delivery of y,
+/// number 17 or a gap that opens.
+fn meeting(x: u32, y: Comes) -> String {
+    let several = match y {
+        Comes::Newer | Comes::NewerAndClose => {
+            format!("P 0 0 1 0 0 5 {x}\nP 18 0 0 0 0 0 0\nQ 0 1 0 1 1\n")
+        }
+        Comes::Older => "P 18 0 0 0 0 0 0\nP 0 0 2 0 0 0 0\nQ 0 1 0 2 2\n".into(),
+        Comes::Same => "P 0 0 2 0 0 0 0\nP 1 1 0 600 0 0 0\nQ 0 0 0 0 0\n".into(),
+    };
+    let one = match y {
+        Comes::Newer => format!("P 1 1 0 10 0 5 {x}\nP 0 0 1 0 0 0 0\nQ 0 1 0 1 1\n"),
+        Comes::NewerAndClose => format!("P 1 1 0 10 0 5 {x}\nP 17 0 0 0 0 0 0\nQ 0 0 0 0 0\n"),
+        Comes::Older => "P 18 0 0 0 0 0 0\nP 0 0 2 0 0 0 0\nQ 0 1 0 2 2\n".into(),
+        Comes::Same => "P 19 0 0 0 0 0 0\nP 0 0 2 0 0 0 0\nQ 0 1 0 2 2\n".into(),
+    };
+    let opens = "P 0 0 1 0 0 0 0\n";
+    [opens, &several, opens, &one].concat()
+}
+
+/// a, b, and whether b is newer than a: up to 1,073,741,823 on. If not, a is newer
+/// than b.
+const HALF: [(usize, usize, bool); 18] = [
+    (1, 1_073_741_823, true),
+    (1, 1_073_741_824, true),
+    (1, 1_073_741_825, false),
+    (1, 1_073_741_826, false),
+    (100, 1_073_741_923, true),
+    (100, 1_073_741_924, false),
+    (1_073_741_823, 2_147_483_646, true),
+    (1_073_741_823, 2_147_483_647, false),
+    (1_073_741_824, 2_147_483_647, true),
+    (1_073_741_824, 1, false),
+    (1_073_741_825, 1, true),
+    (1_073_741_825, 2, false),
+    (2_000_000_000, 926_258_176, true),
+    (2_000_000_000, 926_258_177, false),
+    (2_147_483_647, 1_073_741_822, true),
+    (2_147_483_647, 1_073_741_823, true),
+    (2_147_483_647, 1_073_741_824, false),
+    (2_147_483_647, 1_073_741_825, false),
+];
+
+/// x, y, and what y is: both roles of each row.
+fn half_of_the_ring() -> Vec<(usize, usize, Comes)> {
+    let roles = HALF.map(|(a, b, newer)| match newer {
+        true => [(a, b, Comes::Newer), (b, a, Comes::Older)],
+        false => [(a, b, Comes::Older), (b, a, Comes::Newer)],
+    });
+    roles.concat()
+}
+
+/// The row of each x; M - 1, M, 1 and 2 follow each other.
+fn around_the_end() -> Vec<(usize, usize, Comes)> {
+    use Comes::{NewerAndClose, Older, Same};
+    let numbers = [2_147_483_646, 2_147_483_647, 1, 2];
+    let rows = [
+        [Same, NewerAndClose, NewerAndClose, NewerAndClose],
+        [Older, Same, NewerAndClose, NewerAndClose],
+        [Older, Older, Same, NewerAndClose],
+        [Older, Older, Older, Same],
+    ];
+    let of_x = |(x, row): (usize, [Comes; 4])| {
+        let pairs = numbers.into_iter().zip(row);
+        pairs.map(move |(y, comes)| (x, y, comes))
+    };
+    numbers.into_iter().zip(rows).flat_map(of_x).collect()
+}
+
+#[test]
+fn both_sides_of_half_the_ring_and_of_its_end() {
+    for (title, pairs) in [
+        ("5.10 Half of the ring", half_of_the_ring()),
+        ("5.11 Around the end of the ring", around_the_end()),
+    ] {
+        let expected: String = pairs
+            .iter()
+            .map(|(x, _, y)| meeting(*x as u32, *y))
+            .collect();
+        expect(title, &expected);
+    }
+}
+
+/// R is 2, so that 4 skips one; then 2 under version 6, and 3 is next; then 1 under
+/// version 7.
+#[test]
+fn repeats_around_the_end_of_the_ring() {
+    expect(
+        "5.12 17 before 18",
+        "\
+P 1 1 0 10 0 0 0
+P 0 0 1 0 0 0 0
+P 17 0 0 0 0 0 0
+P 17 0 0 0 0 0 0
+P 18 0 0 0 0 0 0
+P 18 0 0 0 0 0 0
+P 1 4 0 300 1 0 0
+P 1 3 0 10 0 0 0
+P 0 0 1 0 0 0 0
+P 17 0 0 0 0 0 0
+P 17 0 0 0 0 0 0
+P 17 0 0 0 0 0 0
+P 17 0 0 0 0 0 0
+P 0 0 1 0 0 6 2147483547
+P 1 2 0 10 0 6 2147483633
+P 1 3 0 10 0 0 0
+P 0 0 1 0 0 0 0
+P 17 0 0 0 0 0 0
+P 17 0 0 0 0 0 0
+P 18 0 0 0 0 0 0
+P 0 0 1 0 0 7 1073741824
+W 0 16 15000 0 2
+w 0 1 7 7 1 1 7 2147483632 1 300 2 256 2 1 0 0 0 0
+w 1 2 9 0 0 0 0 0 0 0 0 0 0 0 0 0 0 0",
+    );
+}
+
+#[test]
+fn three_numbers_in_a_circle() {
+    expect(
+        "5.13 Three numbers in a circle",
+        "\
+P 0 0 1 0 0 0 0
+P 0 0 1 0 0 5 1
+P 0 0 1 0 0 5 715827883
+P 0 0 1 0 0 5 1431655765
+P 18 0 0 0 0 0 0
+P 0 0 1 0 0 5 1
+W 0 16 15000 0 2
+w 0 1 7 0 0 1 5 715827883 1 300 2 256 1 1 0 0 0 0
+w 1 2 9 0 0 0 0 0 0 0 0 0 0 0 0 0 0 0
+P 18 0 0 0 0 0 0
+P 1 1 0 10 0 5 715827883
+W 0 16 15000 0 2
+w 0 1 7 5 1431655765 0 0 0 0 0 0 0 0 0 0 0 0 0
+w 1 2 9 0 0 0 0 0 0 0 0 0 0 0 0 0 0 0",
+    );
 }
 
 #[test]
@@ -910,6 +1152,7 @@ fn sums_of_dropped_and_unlike_messages() {
         [0, 110, 300, 256, 1],
         [0, 112, 10, 256, 0],
         [0, 2_147_483_647, 300, 256, 1],
+        [0, 113, 300, 256, 1],
         [0, 1, 300, 256, 2],
         [0, 1, 300, 256, 1],
     ];
@@ -920,6 +1163,102 @@ fn sums_of_dropped_and_unlike_messages() {
     let second = pieces([0, 2, 300, 256], &[1, 2]);
     let title = "5.7 Unchecked, of several pieces";
     expect_sums(title, 2, &[unchecked, second].concat());
+}
+
+/// Three pieces of a message of the sender at this place.
+fn of_three(place: usize, seq: usize, order: &[usize]) -> Vec<Brought> {
+    pieces([place, seq, 600, 256], order)
+}
+
+/// The first sender's messages of two pieces, and of one.
+fn of_two(seq: usize, order: &[usize]) -> Vec<Brought> {
+    pieces([0, seq, 300, 256], order)
+}
+
+fn of_one(seq: usize) -> Vec<Brought> {
+    vec![[0, seq, 10, 256, 0]]
+}
+
+#[test]
+fn sums_of_numbers_that_came_round() {
+    let m = 2_147_483_647;
+    let versions = [1, m, 1, 1_073_741_824, 1, 1_073_741_825, 1, 1];
+    let brought = [
+        of_three(0, m, &[1]),
+        of_three(1, 1, &[1]),
+        of_three(0, 1, &[2, 1, 3]),
+        of_three(0, m - 1, &[3]),
+        of_three(0, m, &[1, 2]),
+        of_one(1),
+        of_one(m - 1),
+        of_two(m, &[1]),
+        of_two(1, &[1, 2]),
+        of_one(m - 2),
+        [m - 1, m, 1, 2].map(|seq| of_two(seq, &[2, 1])).concat(),
+        versions.map(|seq| of_two(seq, &[1])).concat(),
+        of_one(m),
+        of_two(m, &[1]),
+        of_two(1, &[1, 2]),
+        of_two(m, &[2]),
+        of_one(1),
+    ];
+    expect_sums("5.9 Numbers that came round", 2, &brought.concat());
+}
+
+#[test]
+fn sums_of_repeats_and_of_the_circle() {
+    let m = 2_147_483_647;
+    let repeats = [
+        of_one(2),
+        of_two(4, &[1, 2]),
+        of_one(2),
+        of_two(m - 100, &[1]),
+        of_two(m - 14, &[1]),
+        of_one(3),
+        of_one(1),
+        of_two(1_073_741_824, &[1]),
+        of_two(m - 15, &[2]),
+    ];
+    expect_sums("5.12 17 before 18", 2, &repeats.concat());
+    let circle = [1, 715_827_883, 1_431_655_765, 1, 715_827_883];
+    let mut circle = circle.map(|seq| of_two(seq, &[1])).concat();
+    circle.extend(of_one(1_431_655_765));
+    expect_sums("5.13 Three numbers in a circle", 2, &circle);
+}
+
+/// What the six P lines of a pair bring, three of several pieces and three of one.
+fn brought_by_a_pair(x: usize, y: usize, comes: Comes) -> [Vec<Brought>; 2] {
+    let of = |seq, piece| [0, seq, 600, 256, piece];
+    let whole = [0, y, 10, 256, 0];
+    let several = match comes {
+        Comes::Newer | Comes::NewerAndClose => vec![of(x, 1), of(y, 2)],
+        Comes::Older => vec![of(x, 1), of(x, 3)],
+        Comes::Same => vec![of(x, 1), of(x, 2), of(x, 3)],
+    };
+    let one = match comes {
+        Comes::Newer => vec![of(x, 1), whole, of(x, 3)],
+        Comes::NewerAndClose => vec![of(x, 1), whole],
+        Comes::Older | Comes::Same => vec![of(x, 1), of(x, 3)],
+    };
+    [several, one]
+}
+
+#[test]
+fn sums_on_both_sides_of_half_the_ring_and_of_its_end() {
+    for (title, pairs) in [
+        ("5.10 Half of the ring", half_of_the_ring()),
+        ("5.11 Around the end of the ring", around_the_end()),
+    ] {
+        let rows = pairs
+            .iter()
+            .flat_map(|(x, y, comes)| brought_by_a_pair(*x, *y, *comes));
+        let rows: Vec<Vec<Brought>> = rows.collect();
+        let lines = sums(title);
+        assert_eq!(lines.len(), 3 * rows.len(), "{title}");
+        for (lines, brought) in lines.chunks(3).zip(&rows) {
+            expect_sums_of(title, lines, 2, brought);
+        }
+    }
 }
 
 /// The one call that is lent no storage is the sixth refusal behind the first two

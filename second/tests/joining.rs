@@ -200,9 +200,75 @@ fn a_newer_message_drops_the_open_one() {
     assert_eq!(desk.take(&figure_54(), 3), refused(17));
 }
 
+/// 02: "A long-running desk passed 2,147,483,647 while a table was open; its next
+/// message, number 1, was refused as 18."
+#[test]
+fn a_number_that_came_round_drops_the_open_one() {
+    let mut desk = Desk::new(&[(1, 7)]);
+    let last = figure_54().numbered(5, M);
+    let next = figure_54().numbered(5, 1);
+    assert_eq!(dropped(desk.call(&last.pdu(1))), (0, 0, 0));
+    assert_eq!(dropped(desk.call(&next.pdu(3))), (0, 5, M));
+    let kept = &desk.receiver.senders[0].message;
+    assert_eq!(
+        (kept.version, kept.seq, kept.map, kept.held),
+        (5, 1, 0b100, 1)
+    );
+    // "Open 1, M comes: 18": of several pieces, and of one.
+    assert_eq!(desk.take(&last, 2), refused(18));
+    assert_eq!(desk.take(&last.sized(10, 256), 1), refused(18));
+    for (piece, held) in [(1, 2), (4, 3)] {
+        assert_eq!(desk.take(&next, piece), stored(held));
+    }
+    assert_eq!(desk.take(&next, 2), (1, 1, 0, octets(4500)));
+    assert_eq!(desk.last(0), (5, 1));
+    assert_eq!(desk.take(&last, 2), refused(17));
+}
+
+#[test]
+fn a_one_piece_newcomer_that_came_round_is_delivered() {
+    let mut desk = Desk::new(&[(1, 7)]);
+    verdict_of(&mut desk, 5, M - 1);
+    desk.call(&figure_54().numbered(5, M).pdu(1));
+    let answer = desk.call(&figure_54().numbered(5, 1).sized(10, 256).pdu(1));
+    assert_eq!(dropped(answer), (1, 5, M));
+    // M is skipped.
+    assert_eq!((answer.verdict.number(), answer.skipped), (4, 1));
+}
+
+#[test]
+fn messages_of_several_pieces_follow_each_other_over_the_end() {
+    let mut desk = Desk::new(&[(1, 7)]);
+    verdict_of(&mut desk, 5, M - 1);
+    for seq in [M, 1, 2] {
+        let next = figure_54().numbered(5, seq).sized(300, 256);
+        assert_eq!(desk.take(&next, 2), stored(1));
+        assert_eq!(desk.take(&next, 1), (1, 2, 0, octets(300)));
+        assert_eq!(desk.last(0), (5, seq));
+    }
+}
+
+/// R is 2 and N1 16: M - 13 is a repeat, M - 14 is not.
+#[test]
+fn repeats_come_first_whether_older_or_newer_than_the_open_message() {
+    for (open, beyond) in [(4, 18), (M - 100, 0)] {
+        let mut desk = Desk::new(&[(1, 7)]);
+        verdict_of(&mut desk, 5, 2);
+        let opened = figure_54().numbered(5, open);
+        assert_eq!(desk.take(&opened, 1), stored(1));
+        for seq in [M, 1, 2, M - 13] {
+            assert_eq!(desk.take(&figure_54().numbered(5, seq), 2), refused(17));
+        }
+        let answer = desk.call(&figure_54().numbered(5, M - 14).pdu(2));
+        assert_eq!(answer.number, beyond, "open {open}");
+    }
+}
+
 #[test]
 fn another_version_drops_whatever_its_number() {
-    for (version, seq) in [(6, 100), (4, 1), (0, 100), (0, 1), (u32::MAX, M)] {
+    let halves = [(6, 1_073_741_923), (6, 1_073_741_924)];
+    let others = [(6, 100), (4, 1), (0, 100), (0, 1), (u32::MAX, M)];
+    for (version, seq) in [&halves[..], &others].concat() {
         let mut desk = Desk::new(&[(1, 7)]);
         desk.call(&figure_54().pdu(1));
         let other = figure_54().numbered(version, seq);

@@ -112,7 +112,7 @@ fn a_wrong_line_is_told_on_standard_error() {
 
 #[test]
 fn unknown_words_give_the_usage() {
-    let wrong: [&[&str]; 11] = [
+    let wrong: [&[&str]; 12] = [
         &[],
         &["edge"],
         &["edges", "now"],
@@ -124,6 +124,7 @@ fn unknown_words_give_the_usage() {
         &["edges-random", "1"],
         &["edges-random", "1", "x"],
         &["edges-random-calls", "-1", "5"],
+        &["tally", "calls", "lines"],
     ];
     for words in wrong {
         let output = second(words, b"");
@@ -141,17 +142,31 @@ fn count_in(tally: &str, kind: &str) -> u64 {
         .unwrap_or(0)
 }
 
-/// 01's and 02's numbers, each where it can be given, and each `next` of a field.
+/// The tally of these lines with the fields that they are of.
+fn tally_of_calls(calls: &[u8], lines: &[u8]) -> Output {
+    let name = concat!(env!("CARGO_TARGET_TMPDIR"), "/calls");
+    std::fs::write(name, calls).unwrap();
+    second(&["tally", name], lines)
+}
+
+/// 01's and 02's numbers, each where it can be given, each `next` of a field, and
+/// numbers that came round.
 #[test]
 fn edges_then_tally_reach_every_number() {
     let edges = second(&["edges"], b"");
     assert_eq!(edges.status.code(), Some(0));
-    let tally = second(&["tally"], &edges.stdout);
+    let calls = second(&["edges-calls"], b"");
+    let tally = tally_of_calls(&calls.stdout, &edges.stdout);
     assert_eq!(tally.status.code(), Some(0));
+    let others = tally_of_calls(&calls.stdout, b"S 0\n");
+    assert_eq!(others.status.code(), Some(1));
+    let none = second(&["tally", "no such file"], b"");
+    assert_eq!(none.status.code(), Some(1));
     let kinds = [
         ("S", &[0, 10][..]),
         ("P", &[0, 1, 9, 11, 12, 13, 14, 15, 16, 17, 18, 19, 20]),
         ("V", &[0, 1, 2, 3, 4, 5]),
+        ("N", &[0, 1, 18]),
         ("A", &[0, 9, 12, 13, 14, 22, 24]),
         ("C", &[0, 9, 21]),
         ("Q", &[0, 9]),

@@ -6,7 +6,7 @@ mod replay;
 use std::collections::BTreeMap;
 
 use replay::{lines_of, read};
-use second::counts::counts;
+use second::counts::counts_of_calls;
 use second::edges::random::{calls_as_fields, lines};
 
 /// Calls enough for every number and clause.
@@ -56,11 +56,12 @@ fn the_fields_alone_give_the_same_lines() {
     }
 }
 
-/// Every answer of each kind of line, and every verdict.
-const REACHED: [(&str, &[u8]); 9] = [
+/// Every answer of each kind of line, every verdict, and numbers that came round.
+const REACHED: [(&str, &[u8]); 10] = [
     ("S", &[0, 10]),
     ("P", &[0, 1, 9, 11, 12, 13, 14, 15, 16, 17, 18, 19, 20]),
     ("V", &[0, 1, 2, 3, 4, 5]),
+    ("N", &[0, 1, 18]),
     ("A", &[0, 9, 12, 13, 14, 22, 24]),
     ("C", &[0, 9, 21]),
     ("Q", &[0, 9]),
@@ -72,7 +73,8 @@ const REACHED: [(&str, &[u8]); 9] = [
 #[test]
 fn every_number_and_verdict_is_reached_by_any_seed() {
     for seed in [0, 1, u64::MAX] {
-        let tally = counts(&lines(seed, COUNT)).unwrap();
+        let calls = calls_as_fields(seed, COUNT);
+        let tally = counts_of_calls(&calls, &lines(seed, COUNT)).unwrap();
         for (kind, numbers) in REACHED {
             for number in numbers {
                 let start = format!("{kind} {number} ");

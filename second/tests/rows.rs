@@ -64,7 +64,7 @@ fn make_hold(call: &mut Call, row: u8) {
 const ROWS: [u8; 11] = [9, 11, 12, 13, 14, 15, 16, 17, 18, 19, 20];
 
 /// A sender that is not registered has no last number and nothing open; an open
-/// message has either a larger or the same number.
+/// message has either a newer or the same number.
 const NEVER_TOGETHER: [(u8, u8); 6] = [(14, 17), (14, 18), (14, 19), (14, 20), (18, 19), (18, 20)];
 
 /// Makes the call; a refusal gives nothing more and alters nothing.
@@ -342,7 +342,33 @@ fn row_18_wants_the_same_version() {
         })
     };
     assert_eq!((open(5, 104), open(6, 104)), (18, 0));
-    assert_eq!((open(5, 102), open(5, M)), (0, 18));
+    assert_eq!((open(5, 102), open(6, 102)), (0, 0));
+}
+
+/// 02: "the newcomer is newer when (SEQ - open SEQ) modulo M is 1 to
+/// 1,073,741,823, and older when it is larger."
+#[test]
+fn row_18_at_the_half_and_at_the_end_of_the_ring() {
+    // N1 is 1 and R far from all of these, so that none is a repeat.
+    let comes = |open: u32, seq: u32| {
+        number_with(&|call| {
+            call.receiver.n1 = 1;
+            let sender = &mut call.receiver.senders[0];
+            (sender.last_number, sender.message.seq) = (500_000_000, open);
+            call.packet = figure_54().numbered(5, seq).pdu(2);
+        })
+    };
+    assert_eq!((comes(M, 1), comes(1, M)), (0, 18));
+    assert_eq!((comes(M, 103), comes(103, M)), (0, 18));
+    let from = |open: u32, on_823: u32, on_824: u32| (comes(open, on_823), comes(open, on_824));
+    assert_eq!(from(103, 1_073_741_926, 1_073_741_927), (0, 18));
+    assert_eq!(from(1_073_741_824, M, 1), (0, 18));
+    assert_eq!(from(1_073_741_825, 1, 2), (0, 18));
+    assert_eq!(from(M, 1_073_741_823, 1_073_741_824), (0, 18));
+    let to = |seq: u32, back_823: u32, back_824: u32| (comes(back_823, seq), comes(back_824, seq));
+    assert_eq!(to(103, 1_073_741_927, 1_073_741_926), (0, 18));
+    assert_eq!(to(1, 1_073_741_825, 1_073_741_824), (0, 18));
+    assert_eq!(to(M, 1_073_741_824, 1_073_741_823), (0, 18));
 }
 
 #[test]
@@ -392,8 +418,7 @@ fn row_20_octets_are_not_compared() {
 
 #[test]
 fn unchecked_skips_17_alone() {
-    // (0, 1) is unchecked, so that it is no repeat; 18 never meets it, since
-    // no number is below 1 - but 19 and 20 do.
+    // (0, 1) is unchecked, so that it is no repeat; but 18, 19 and 20 meet it.
     let call = |map: u64, held: u8, tcd: u16| {
         number_with(&|call| {
             let sender = &mut call.receiver.senders[0];
@@ -407,11 +432,15 @@ fn unchecked_skips_17_alone() {
     };
     assert_eq!((call(0b0001, 1, 1), call(0b0001, 1, 2)), (0, 19));
     assert_eq!(call(0b0011, 2, 1), 20);
-    let larger = number_with(&|call| {
-        call.receiver.senders[0].message.version = 0;
-        call.packet = figure_54().numbered(0, 1).pdu(2);
-    });
-    assert_eq!(larger, 18);
+    let open = |seq: u32| {
+        number_with(&|call| {
+            let open = &mut call.receiver.senders[0].message;
+            (open.version, open.seq) = (0, seq);
+            call.packet = figure_54().numbered(0, 1).pdu(2);
+        })
+    };
+    assert_eq!((open(2), open(103), open(1_073_741_824)), (18, 18, 18));
+    assert_eq!((open(1_073_741_825), open(M)), (0, 0));
 }
 
 // ---- alive signals ----

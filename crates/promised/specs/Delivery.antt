@@ -109,7 +109,7 @@ pub record May (q : Setup) (log : List Exchange) (m : Sent) (i : ℕ) : Type 0 w
       → headOf packet .given .version .0 ≡ m .version .0 → headOf packet .given .number .0 ≢ m .number .0
   -- "the number check does not call it a repeat,"
   pub no-repeat : isRepeat (verdictFor q log m) ≡ false
-  -- "no larger number of that version is open for the sender,"
+  -- 02, Item 3: "no newer number of that version is open", "for the sender,"
   pub none-newer : newerIsOpen (openFor m i log) (nameIn m) ≡ false
   -- "the mode admits it,": not a "test message at an online node"
   pub admits : eqb (m .mode) 1 && eqb (q .mode) 0 ≡ false

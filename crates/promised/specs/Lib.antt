@@ -9,6 +9,8 @@ pub mod Join
 -- A message is delivered at its last missing piece; each condition is needed.
 pub mod Delivery
 pub mod Needed
+-- What a newcomer is told, by its number and the open one.
+pub mod Newcomer
 -- Who is alive.
 pub mod AlivePast
 -- For the proofs alone: what one sender sees of a past.
@@ -33,3 +35,4 @@ pub mod BetweenLaws
 pub mod DeliveryLaws
 pub mod ListedLaws
 pub mod NeededLaws
+pub mod NewcomerLaws

@@ -113,7 +113,7 @@ sameMessage [] name = false
 sameMessage (p ∷ packets) name =
     eqb (headOf p .given .version .0) (name .version .0) && eqb (headOf p .given .number .0) (name .number .0)
 
--- "nothing open, it opens. Another version than the open one, or the same version and a larger number: the open message
+-- "nothing open, it opens. Another version than the open one, or the same version and a" newer "number: the open message
 -- is dropped … and the new one opens. Same version and number: a new piece is added."
 abbrev pub acceptedWith : List (List ℕ) → List ℕ → List (List ℕ)
 acceptedWith packets packet = packet ∷ cond (sameMessage packets (nameOf packet)) packets []

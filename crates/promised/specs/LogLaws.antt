@@ -66,7 +66,7 @@ module _ (last : Name) (now : ℕ) (stamp : ℕ) (v : View) where
   open-pieces [] t o = absurd (never-both o (t .same-open))
   open-pieces (q ∷ packets) t o = sym (ap (λ (x : Kin). x .tbn) (open-kin q packets t))
 
-  -- Whether it is this message that is open, and whether a larger number of its version is.
+  -- Whether it is this message that is open, and whether a newer number of its version is.
   pub named-same : (packets : List (List ℕ)) → Tells last now packets stamp v → (n : Name)
       → s .«open» && eqb (s .message .version .0) (n .version .0) && eqb (s .message .number .0) (n .number .0) ≡ sameMessage packets n
   named-same [] t n = rw (t .same-open)

@@ -108,7 +108,7 @@ Fulfilled unheard e = (p : List ℕ) → List·Memᴰ (message p) (calls (log e)
     → headOf p .given .version .0 ≡ sent e .version .0 → headOf p .given .number .0 ≢ sent e .number .0
 -- "the number check does not call it a repeat,"
 Fulfilled no-repeat e = isRepeat (verdict e) ≡ false
--- "no larger number of that version is open for the sender,"
+-- 02, Item 3: "no newer number of that version is open", "for the sender,"
 Fulfilled none-newer e = newerIsOpen (openFor (sent e) (e .place) (log e)) (nameIn (sent e)) ≡ false
 -- "the mode admits it,"
 Fulfilled admits e = eqb (sent e .mode) 1 && eqb (e .setup .mode) 0 ≡ false
@@ -179,12 +179,12 @@ long = replicate 256 7 ++ (8 ∷ [])
 abbrev pub comes : (node number : ℕ) → List ℕ → ℕ → Event
 comes node number octets c = message (pdu (headed node 5 number 0) octets 256 c)
 
--- A message of one piece comes from node 8, with number 100 of version 5: delivery is promised.
-abbrev pub lone : Setup → (mode : ℕ) → List Event → (answered : ℕ) → Example
-lone q mode past answered = record {
+-- A message of one piece comes from node 8, with a number of version 5: delivery is promised.
+abbrev pub single : Setup → (number mode : ℕ) → List Event → (answered : ℕ) → Example
+single q number mode past answered = record {
   setup = q;
   place = 1;
-  given = headed 8 5 100 mode;
+  given = headed 8 5 number mode;
   octets = short;
   u = 256;
   past = past;
@@ -193,6 +193,10 @@ lone q mode past answered = record {
   promised = 1;
   answered = answered;
 }
+
+-- With number 100.
+abbrev pub lone : Setup → (mode : ℕ) → List Event → (answered : ℕ) → Example
+lone q mode past answered = single q 100 mode past answered
 
 -- The first piece of several comes from node 7, with number 100 of version 5: it is to be stored.
 abbrev pub opening : List ℕ → (u answered : ℕ) → Example
@@ -239,6 +243,10 @@ example = oneOfTwo 1
 unfoldable pub tested : Example
 tested = lone test 1 [] 1
 
+-- "no newer number of that version is open", where the numbers have come round: M is open, 1 comes. Delivered.
+unfoldable pub cameRound : Example
+cameRound = single online 1 0 (comes 8 2147483647 long 1 ∷ []) 1
+
 -- ---- each is needed
 
 -- The example in which one condition alone fails.
@@ -278,7 +286,7 @@ without version-not-0 = record {
 without unheard = oneOfTwo 2 (comes 8 100 (replicate 257 9) 1 ∷ []) [] 0 1
 -- "the number check does not call it a repeat": the number after it was delivered. 17, not delivered.
 without no-repeat = lone online 0 (comes 8 101 short 1 ∷ []) 17
--- "no larger number of that version is open for the sender": the number after it is. 18, not delivered.
+-- "no newer number of that version is open": the number after it is. 18, not delivered.
 without none-newer = lone online 0 (comes 8 101 long 1 ∷ []) 18
 -- "the mode admits it": `tested` at an online node. 15, not delivered.
 without admits = lone online 1 [] 15
@@ -288,3 +296,8 @@ without only-pieces = oneOfTwo 2 [] (comes 8 100 long 1 ∷ comes 8 101 short 1 
 -- "no clock call drops it": after the first piece node 7's message opens at 1 ms. A clock call at 15,000 ms drops this
 -- one, which is T old, and leaves node 7's. The second piece opens the message again: stored, not delivered.
 without kept = oneOfTwo 2 [] (comes 8 100 long 1 ∷ clock 1 ∷ comes 7 100 long 1 ∷ clock 15000 ∷ []) 1 0
+
+-- "no newer number of that version is open", once more, where the numbers have come round: 1 is, and M comes. 18, not
+-- delivered.
+unfoldable pub turned : Example
+turned = single online 2147483647 0 (comes 8 1 long 1 ∷ []) 18

@@ -37,7 +37,7 @@ use Rattle.promised.specs.CameLaws.{decided, dec-by, dec-or, dec-true, d
 use Rattle.promised.specs.Delivery.{Sent, PieceOf, nameIn, openFor, verdictFor, May, Allowed, Between, OnlyPieces, OneApplies, is-last, is-one, came-before, all-came, Arrives, Once}
 use Rattle.promised.specs.Judged.{inOrder, isFrom}
 use Rattle.promised.specs.Log.{ToldOf, toldBy, Exchange, exchange, logged, calls, timeOf, deliveries, lastOf, sameMessage, openOf, stampOf}
-use Rattle.promised.specs.Needed.{Example, sent, packet, start, before, log, answersSince, verdict, finds, outcome, part, Promise, Condition, registered, length-within, unit-within, version-not-0, unheard, no-repeat, none-newer, admits, only-pieces, kept, NoneAsked, Fulfilled, Met, Needed, example, tested, without}
+use Rattle.promised.specs.Needed.{Example, sent, packet, start, before, log, answersSince, verdict, finds, outcome, part, Promise, Condition, registered, length-within, unit-within, version-not-0, unheard, no-repeat, none-newer, admits, only-pieces, kept, NoneAsked, Fulfilled, Met, Needed, example, tested, cameRound, without, turned}
 use Rattle.promised.specs.PastSaysLaws.{says-is, agrees-after, log-is}
 use Rattle.promised.specs.Says.{sendersOf, firstPlace, newerIsOpen, hasPiece, octetsOf, messageSays, mapOf, clockSays, says, logOf}
 
@@ -226,7 +226,7 @@ computed : Example → Computed
 unfolding
     decided dec-by dec-if dec-or dec-true dec-false dec-eq dec-le dec-octets dec-cut dec-address dec-piece dec-some dec-brings dec-came others one-applies promisedBy
     dec-brought dec-each dec-other dec-at dec-allowed dec-kept decide failing conditions promise computedWith Dec·and Dec·not
-    example tested without
+    example tested cameRound without turned
     run number octets check rule4 remainder newer layout tabulate octetOf codeOf header headOf isFixed pdu pieces pieceLength piece joined
     unit frontPossible lastPossible severalPossible possible bit newAmong addressesWithin setupWithin first inOrder isFrom
     timeOf deliveries lastOf openOf stampOf sendersOf firstPlace hasPiece octetsOf messageSays mapOf clockSays says logOf
@@ -243,7 +243,11 @@ tested-computed : computed tested ≡ saidOf tested [] true
 unfolding computed
 tested-computed = refl
 
--- The two of them are delivered, octet for octet.
+cameRound-computed : computed cameRound ≡ saidOf cameRound [] true
+unfolding computed
+cameRound-computed = refl
+
+-- These are delivered, octet for octet.
 abbrev Delivers : Example → Type 0
 Delivers e = (toldIn e (pastLog e) .0 .outcome ≡ deliveredAs (verdictFor (e .setup) (pastLog e) (sent e))) × (toldIn e (pastLog e) .1 ≡ e .octets)
 
@@ -254,6 +258,10 @@ example-delivers = (refl, refl)
 tested-delivers : Delivers tested
 unfolding computed
 tested-delivers = (refl, refl)
+
+cameRound-delivers : Delivers cameRound
+unfolding computed
+cameRound-delivers = (refl, refl)
 
 without-computed : (x : Condition) → computed (without x) ≡ saidOf (without x) (x ∷ []) false
 unfolding computed
@@ -267,6 +275,10 @@ without-computed none-newer = refl
 without-computed admits = refl
 without-computed only-pieces = refl
 without-computed kept = refl
+
+turned-computed : computed turned ≡ saidOf turned (none-newer ∷ []) false
+unfolding computed
+turned-computed = refl
 
 -- ---- what the rows say
 
@@ -417,16 +429,22 @@ met e c d =
       );
     }
 
-pub can-be-met : Met example × Met tested
-can-be-met = (met example example-computed example-delivers, met tested tested-computed tested-delivers)
+pub can-be-met : Met example × Met tested × Met cameRound
+can-be-met = (met example example-computed example-delivers, met tested tested-computed tested-delivers, met cameRound cameRound-computed cameRound-delivers)
 
-pub each-needed : (x : Condition) → Needed x (without x)
-each-needed x =
-    let r = row-facts (without x) (x ∷ []) false (without-computed x) in
+needed : (x : Condition) (e : Example) → computed e ≡ saidOf e (x ∷ []) false → Needed x e
+needed x e c =
+    let r = row-facts e (x ∷ []) false c in
     record {
-      started = started (without x .setup);
+      started = started (e .setup);
       is-piece = r .is-piece;
       others = λ y n. r .holds y (λ i. n (List·Memᴰ·eq-of-singleton i));
       fails = r .fails x (List·Memᴰ·head refl);
       broken = λ a. false≢true (r .kept-to a);
     }
+
+pub each-needed : (x : Condition) → Needed x (without x)
+each-needed x = needed x (without x) (without-computed x)
+
+pub needed-round : Needed none-newer turned
+needed-round = needed none-newer turned turned-computed

@@ -130,7 +130,7 @@ verdictBy n1 m l = check n1 (l .version) (l .number) (m .version) (m .number)
 abbrev pub mapOf : Sent → Sender → ℕ
 mapOf m s = cond (isOpen m s) (s .message .map) 0
 
--- A larger number of its version is open.
+-- A newer number of its version is open.
 abbrev pub newerOpen : Sent → Sender → Bool
 newerOpen m s = s .«open» && eqb (s .message .version .0) (m .version .0) && newer (s .message .number) (m .number)
 

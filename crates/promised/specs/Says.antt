@@ -40,7 +40,7 @@ placeOf l a = firstPlace (λ i. sameAddress (given l i) a) (length l)
 
 -- ---- the message call
 
--- The open message "has the same version and a larger number".
+-- The open message "has the same version and a" newer "number", by 02, Item 3.
 abbrev pub newerIsOpen : List (List ℕ) → Name → Bool
 newerIsOpen [] name = false
 newerIsOpen (p ∷ packets) name = eqb (headOf p .given .version .0) (name .version .0) && newer (headOf p .given .number) (name .number)
@@ -70,7 +70,7 @@ laterRows q verdict packets packet =
     ∷ row 16 (not (possible (headOf packet .cut)))
     -- "number check says repeat"
     ∷ row 17 (isRepeat verdict)
-    -- "open message has the same version and a larger number"
+    -- "open message has the same version and a" newer "number"
     ∷ row 18 (newerIsOpen packets (nameOf packet))
     -- "same version and number, but TCD, n, TBN or u differ"
     ∷ row 19 (sameMessage packets (nameOf packet) && differs packets packet)

@@ -15,7 +15,8 @@ use lib.Dec.{ltb}
 use lib.ListN.{length, take, drop, getD}
 use lib.Pow.{areBytes}
 use Rattle.octets.specs.Run.{run}
-use Rattle.ring.specs.Printed.{CheckAsPrinted}
+use Rattle.ring.specs.Edges as newer-edges
+use Rattle.ring.specs.Printed.{CheckAsPrinted, NewerAsPrinted}
 use Rattle.header.specs.declared.Given.{Given}
 use Rattle.header.specs.Head.{headOf}
 use Rattle.header.specs.Printed.{HeaderAsPrinted}
@@ -43,13 +44,13 @@ use Rattle.rules.specs.calls.First as rows
 use Rattle.rules.specs.calls.Message.{messageRows}
 use Rattle.rules.specs.calls.Question.{questionRows}
 use Rattle.rules.specs.calls.Setup.{setupWithin}
-use Rattle.rules.specs.pasts.Listings.{Name}
 use Rattle.rules.specs.pasts.Listings as listings
 use Rattle.rules.specs.pasts.Past.{World, Event, message, alive, clock, aside, question, Said, Answers}
 use Rattle.promised.specs.AlivePast.{AliveBy}
 use Rattle.promised.specs.Delivery.{Sent, sentBy, Numbered, PieceOf, May, Between, OnlyPieces, verdictFor, OneApplies, Arrives, Once, Listed}
 use Rattle.promised.specs.Join.{Joined}
-use Rattle.promised.specs.Log.{toldBy, Exchange, logged, deliveries, acceptedWith, openOf, lifeOf}
+use Rattle.promised.specs.Log.{toldBy, Exchange, logged, Name, nameOf, deliveries, acceptedWith, openOf, lifeOf}
+use Rattle.promised.specs.Newcomer.{Under, Newcomer}
 use Rattle.promised.specs.Says.{sendersOf, placeOf, heldSays, says, logOf}
 use Rattle.promises.specs.AsPrinted.{CuttingAsPrinted}
 use Rattle.promises.specs.Board.{BoardBegins, BoardIsCourse}
@@ -313,6 +314,18 @@ NoneShort = (s : List ℕ) → length s < 20 → isSection s ≡ false
 abbrev pub EveryFaultEdge : Type 0
 EveryFaultEdge = fault-edges.all fault-edges.edges ≡ true
 
+-- ---- 02, Item 3: numbers that came round
+
+-- What a packet is told after any past, where a message of its sender is open: "newer when (SEQ − open SEQ) modulo M is 1
+-- to 1,073,741,823, and older when it is larger". Which of two numbers that makes the newer one is `NewerAsPrinted`.
+abbrev pub NewcomerSaid : Type 0
+NewcomerSaid = AfterPast (λ q log v. (packet : List ℕ) (r : Said (message packet)) (u : World) → Meets v (message packet) r u
+    → (opened : Name) → Under q log packet opened → Newcomer (nameOf packet) opened (messageTold (r .0)))
+
+-- The table of edges.
+abbrev pub EveryNewerEdge : Type 0
+EveryNewerEdge = newer-edges.all newer-edges.edges ≡ true
+
 -- ---- uniqueness, and the edges
 
 -- "Uniqueness is itself proved": of two programs, or of one that runs twice, the same calls get the same answers and
@@ -346,7 +359,7 @@ EveryEdge = all edges ≡ true
 
 -- Small pasts are told what 01 gives, written out as numbers and octets, the full listing of 01 among them.
 abbrev pub EveryListing : Type 0
-EveryListing = (x : Name) → listings.all (listings.listings x) ≡ true
+EveryListing = (x : listings.Name) → listings.all (listings.listings x) ≡ true
 
 -- ---- all of it
 
@@ -387,6 +400,9 @@ pub record Demands : Type 0 where
   pub writes-same : WritesSame
   pub none-short : NoneShort
   pub every-fault-edge : EveryFaultEdge
+  pub newer-printed : NewerAsPrinted
+  pub newcomer-said : NewcomerSaid
+  pub every-newer-edge : EveryNewerEdge
   pub one-reading : OneReading
   pub one-writing : OneWriting
   pub one-course : OneCourse

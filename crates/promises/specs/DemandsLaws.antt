@@ -37,7 +37,7 @@ use Rattle.answers.specs.declared.Setup.{Setup}
 use Rattle.answers.specs.declared.Where.the-variants as lies
 use Rattle.answers.specs.declared.Started.{Started}
 use Rattle.answers.specs.declared.Ticked.{Ticked}
-use Rattle.answers.specs.Told.{leastRefusal, RefusedAs, OutcomeTold, outcomeTold, whereTold, HasVerdict, messageTold, callNumber, clockTold, questionTold, CallTells}
+use Rattle.answers.specs.Told.{leastRefusal, RefusedAs, OutcomeTold, outcomeTold, whereTold, HasVerdict, MessageTold, messageTold, callNumber, clockTold, questionTold, CallTells}
 use Rattle.promised.specs.AlivePast.{AliveBy}
 use Rattle.rules.specs.calls.Admit.{senderRows, verdictOf, admitted, fills}
 use Rattle.rules.specs.calls.AdmitLaws.{admitted-facts}
@@ -48,11 +48,13 @@ use Rattle.promised.specs.Delivery.{Sent, Between, OnlyPieces, verdictFor, Arri
 use Rattle.promised.specs.DeliveryLaws.{arrives-only}
 use Rattle.promised.specs.ListedLaws.{listed-only}
 use Rattle.promised.specs.AgreesLaws.{Agrees, agrees-start}
+use Rattle.promised.specs.Newcomer.{Newcomer}
+use Rattle.promised.specs.NewcomerLaws as newcomer
 use Rattle.promised.specs.PastSaysLaws.{says-is, agrees-after, log-is, alive-told}
 use Rattle.promised.specs.MessageSaysLaws.{safe}
-use Rattle.promised.specs.Says.{sendersOf, placeOf}
+use Rattle.promised.specs.Says.{sendersOf, placeOf, says}
 use Rattle.promised.specs.SaysLaws.{held-says}
-use Rattle.promised.specs.Log.{toldBy, Exchange, logged, deliveries, acceptedWith, openOf, lifeOf}
+use Rattle.promised.specs.Log.{toldBy, Exchange, logged, nameOf, deliveries, acceptedWith, openOf, lifeOf}
 use Rattle.rules.specs.calls.ExactlyLaws.{message-refuses, message-given, alive-refuses, alive-given, clock-refuses, clock-given, question-refuses, question-given, setup-refuses, setup-given, message-tells, alive-tells, clock-tells, question-tells, setup-tells}
 use Rattle.rules.specs.calls.First.{Row, row, Given}
 use Rattle.rules.specs.calls.FirstLaws.{above, given-above, first-given, first-neither, numbered}
@@ -63,7 +65,7 @@ use Rattle.rules.specs.pasts.PastLaws.{Sound}
 use Rattle.rules.specs.calls.Setup.{setupWithin}
 use Rattle.promises.specs.Course.{SetupMeets, Course}
 use Rattle.promises.specs.CourseLaws.{one-call, one-course, next-call, course-start, course-sound}
-use Rattle.promises.specs.Demands.{numberIn, NothingMore, rowsOf, Refuses, CallsRefuse, SetupRefuses, CutterRefuses, Tells, NumbersTell, VerdictTold, NothingHanded, NeverNine, EverySaid, LogIs, WhoIsAlive, DeliveredOnce, ListedOnce, Safety, HeldSaid, HeldIsOnes, DifferMeetsNine}
+use Rattle.promises.specs.Demands.{numberIn, NothingMore, rowsOf, Refuses, CallsRefuse, SetupRefuses, CutterRefuses, Tells, NumbersTell, VerdictTold, NothingHanded, NeverNine, EverySaid, LogIs, WhoIsAlive, DeliveredOnce, ListedOnce, Safety, HeldSaid, HeldIsOnes, DifferMeetsNine, NewcomerSaid}
 
 -- ---- demand 1
 
@@ -253,6 +255,13 @@ pub held-is-ones : HeldIsOnes
 held-is-ones q r w m es rs v c i k here asked =
     let a = course-agrees q r w m es rs v c in
     asked .answered ∙ held.held-is-ones (v .state) i (a .sound .is-valid) (omega (arith, here, a .count))
+
+pub newcomer-said : NewcomerSaid
+unfolding says
+newcomer-said q r w m es rs v c packet a u meets opened under =
+    subst (λ (t : MessageTold). Newcomer (nameOf packet) opened t)
+    (ap (λ (t : MessageTold × List ℕ). t .0) (sym (every-said q r w m es rs v c (message packet) a u meets)))
+    (newcomer.newcomer-said q (logged [] es rs) packet opened under)
 
 -- Row 9 is the first of every call.
 nine-first : (b : Bool) (rs : List Row) → b ≡ false → Given (row 9 (not b) ∷ rs) 9

@@ -1,5 +1,6 @@
 -- The demands are kept: every statement of Demands.antt, proved. Assumes nothing.
-use Rattle.ring.specs.PrintedLaws as check
+use Rattle.ring.specs.Edges as newer-edges
+use Rattle.ring.specs.PrintedLaws as ring
 use Rattle.header.specs.PrintedLaws as header
 use Rattle.cut.specs.Edges as edges
 use Rattle.cut.specs.PrintedLaws as cut
@@ -31,7 +32,7 @@ kept = record {
   every-said = laws.every-said;
   log-is = laws.log-fixed;
   header-printed = header.header-as-printed;
-  check-printed = check.check-as-printed;
+  check-printed = ring.check-as-printed;
   cuts-printed = cut.cuts-as-printed;
   cutting-printed = printed.cutting-as-printed;
   possible-printed = cut.possible-as-printed;
@@ -52,6 +53,9 @@ kept = record {
   writes-same = fault.writes-same;
   none-short = fault.none-short;
   every-fault-edge = fault-edges.every-edge;
+  newer-printed = ring.newer-as-printed;
+  newcomer-said = laws.newcomer-said;
+  every-newer-edge = newer-edges.every-edge;
   one-reading = fault.one-reading;
   one-writing = fault.one-writing;
   one-course = course.same-course;

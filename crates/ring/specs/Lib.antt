@@ -1,5 +1,6 @@
 pub mod Ring
 pub mod RingLaws
+pub mod Edges
 pub mod Check
 pub mod CheckLaws
 pub mod Table14

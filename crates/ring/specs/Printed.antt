@@ -1,12 +1,15 @@
--- The number check as 01 prints it, rule by rule and with its own numbers, and as Table 14. Proved in PrintedLaws.antt.
+-- The number check as 01 prints it, rule by rule and with its own numbers, and as Table 14; which number is newer, as 02
+-- prints it. Proved in PrintedLaws.antt.
 use Prim.Native.Nat.{ℕ, _+_, _-_, _%_, _≤_, _<_}
 use mathlib.Core.Path.{_≡_}
 use mathlib.Core.Logic.{_≢_}
+use mathlib.Core.Bool.{true, false}
 use mathlib.Core.List.{[], _∷_, map}
 use Rattle.ring.specs.declared.Number.{Number}
 use Rattle.ring.specs.declared.Version.{Version}
 use Rattle.ring.specs.declared.Verdict.{Verdict}
 use Rattle.ring.specs.declared.Verdict.the-variants.{Unchecked, First, Restart, Repeat, Next, Gap}
+use Rattle.ring.specs.Ring.{newer}
 use Rattle.ring.specs.Check.{check, verdictNumber, verdictSkipped}
 use Rattle.ring.specs.Table14.{table14, result}
 
@@ -53,3 +56,16 @@ pub record CheckAsPrinted : Type 0 where
   -- "Verdicts: 1 first, 2 next, 3 restart, 4 gap, 5 unchecked, 0 where nothing is delivered", and what was skipped.
   pub numbers : (k : ℕ) → map verdictNumber (First ∷ Next ∷ Restart ∷ Gap k ∷ Unchecked ∷ Repeat ∷ []) ≡ 1 ∷ 2 ∷ 3 ∷ 4 ∷ 5 ∷ 0 ∷ []
   pub skipped : (k : ℕ) → map verdictSkipped (First ∷ Next ∷ Restart ∷ Gap k ∷ Unchecked ∷ Repeat ∷ []) ≡ 0 ∷ 0 ∷ 0 ∷ k ∷ 0 ∷ 0 ∷ []
+
+-- 02, Item 3, of the newcomer's number and the open one, d being "(SEQ − open SEQ) modulo M".
+pub record NewerAsPrinted : Type 0 where
+  -- "newer when (SEQ − open SEQ) modulo M is 1 to 1,073,741,823,"
+  pub newer-when : (seq opened : Number) (d : ℕ) → Remainder (seq .0) (opened .0) d → 1 ≤ d → d ≤ 1073741823
+      → (newer seq opened ≡ true) × (newer opened seq ≡ false)
+  -- "and older when it is larger."
+  pub older-when : (seq opened : Number) (d : ℕ) → Remainder (seq .0) (opened .0) d → 1073741823 < d
+      → (newer seq opened ≡ false) × (newer opened seq ≡ true)
+  -- 0, the same: neither is newer, and of 1 to M it is one number.
+  pub neither-when : (seq opened : Number) → Remainder (seq .0) (opened .0) 0 → (newer seq opened ≡ false) × (newer opened seq ≡ false)
+  pub same-when : (seq opened : Number) → Remainder (seq .0) (opened .0) 0
+      → 1 ≤ seq .0 → seq .0 ≤ 2147483647 → 1 ≤ opened .0 → opened .0 ≤ 2147483647 → seq .0 ≡ opened .0

@@ -1,4 +1,4 @@
--- The number check is as 01 prints it. Assumes nothing.
+-- The number check is as 01 prints it, and newer as 02 does. Assumes nothing.
 use Prim.Native.Nat.{ℕ, _+_, _-_}
 use mathlib.Core.Path.{_≡_, refl, sym, ap, subst, _∙_}
 use mathlib.Core.Logic.{_≢_, _⊎_, ⊎-elim}
@@ -9,12 +9,12 @@ use Rattle.ring.specs.declared.Version.{Version}
 use Rattle.ring.specs.declared.Verdict.{Verdict}
 use Rattle.ring.specs.declared.Verdict.the-variants.{Gap}
 use Rattle.ring.specs.Ring.{remainder, skipped}
-use Rattle.ring.specs.RingLaws.{remainder-bound, remainder-on, remainder-only}
+use Rattle.ring.specs.RingLaws.{remainder-bound, remainder-on, remainder-only, remainder-none, newer-near, newer-far, newer-none}
 use Rattle.ring.specs.Check.{Says}
 use Rattle.ring.specs.Check.Says.{rule-1, rule-2, rule-3, rule-4-repeat, rule-4-next, rule-4-gap}
 use Rattle.ring.specs.CheckLaws.{says-check, says-only, check-rule4}
 use Rattle.ring.specs.Table14.{result, rule4-is-table14}
-use Rattle.ring.specs.Printed.{Remainder, Rules, unchecked, first, restart, repeat, next, gap, CheckAsPrinted}
+use Rattle.ring.specs.Printed.{Remainder, Rules, unchecked, first, restart, repeat, next, gap, CheckAsPrinted, NewerAsPrinted}
 
 remainder-is : (a b d : ℕ) → Remainder a b d → d ≡ remainder a b
 remainder-is a b d e = remainder-only a b d (e .0) (e .1)
@@ -57,4 +57,16 @@ check-as-printed = record {
       ∙ rule4-is-table14 n1 r s (record { first = r-low; last = r-high }) (record { first = s-low; last = s-high }) low high;
   numbers = λ k. refl;
   skipped = λ k. refl;
+}
+
+pub newer-as-printed : NewerAsPrinted
+newer-as-printed = record {
+  newer-when = λ seq opened d is low high. let e = remainder-is (seq .0) (opened .0) d is in newer-near seq opened (omega arith) (omega arith);
+  older-when = λ seq opened d is high. let e = remainder-is (seq .0) (opened .0) d is in newer-far seq opened (omega arith);
+  neither-when = λ seq opened is. newer-none seq opened (sym (remainder-is (seq .0) (opened .0) 0 is));
+  same-when = λ seq opened is s-low s-high o-low o-high.
+      remainder-none (seq .0) (opened .0)
+      (record { first = s-low; last = s-high })
+      (record { first = o-low; last = o-high })
+      (sym (remainder-is (seq .0) (opened .0) 0 is));
 }

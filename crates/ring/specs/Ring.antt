@@ -1,7 +1,7 @@
 -- The ring of sequence numbers: how far one lies behind another, and which of two is newer.
 use Prim.Native.Nat.{ℕ, _+_, _-_, _%_, _≤_}
 use mathlib.Core.Bool.{Bool, _&&_}
-use lib.Dec.{leb, ltb}
+use lib.Dec.{leb}
 use Rattle.ring.specs.declared.Number.{Number}
 
 -- "SEQ is 1 to M, where M = 2,147,483,647."
@@ -29,6 +29,12 @@ back r s = remainder (r .0) (s .0)
 abbrev pub skipped : Number → Number → ℕ
 skipped r s = remainder (s .0) (r .0 + 1)
 
--- "the same version and a larger number": a is newer than b.
+-- 02, Item 3: "with the same version, the newcomer is newer when (SEQ − open SEQ) modulo M is 1 to 1,073,741,823, and
+-- older when it is larger".
+abbrev pub half : ℕ
+half = 1073741823
+
+-- a is newer than b, and b older than a. Callers use its law, `one-order`. What is newer than a newer number need not be
+-- newer (`not-transitive`).
 unfoldable pub newer : Number → Number → Bool
-newer a b = ltb (b .0) (a .0)
+newer a b = leb 1 (remainder (a .0) (b .0)) && leb (remainder (a .0) (b .0)) half

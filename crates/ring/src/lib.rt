@@ -20,6 +20,9 @@ pub struct Number(pub u32);
 
 pub const M: u32 = 2_147_483_647;
 
+// M is odd: of the other numbers of the ring half lie up to here on from one, and half beyond.
+const HALF: u32 = 1_073_741_823;
+
 // What the number check says of a message. A repeat is refused, so it has no verdict of its own in what is printed.
 pub enum Verdict {
     Unchecked,
@@ -56,11 +59,12 @@ fn on_ring(x: u32) -> u32
     if x < M { x } else { x % M }
 }
 
-// Whether a is newer than b.
+// Whether a is newer than b: 1 to HALF on from it.
 pub fn newer(a: Number, b: Number) -> bool
     ensures { λ x. ⌜ x ≡ isNewer a b ⌝ }
 {
-    b.0 < a.0
+    let d = back(a, b);
+    (1 <= d) & (d <= HALF)
 }
 
 // What the last delivered version rv and number r make of a message with version v and number s.

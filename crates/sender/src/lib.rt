@@ -174,7 +174,7 @@ fn kept_after(s: Sender, h: Head) -> u8
     if m.held < 255 { m.held + 1 } else { m.held }
 }
 
-// The open message, where the PDU has another version, or the same version and a larger number.
+// The open message, where the PDU has another version, or the same version and a newer number.
 fn dropped_by(s: Sender, h: Head) -> Dropped
     ensures { λ r. ⌜ r ≡ droppedBy s h ⌝ }
 {

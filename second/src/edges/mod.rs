@@ -9,6 +9,7 @@ mod alive_and_clock;
 mod alive_sections;
 mod calls;
 mod clauses;
+mod coming_round;
 mod cutting;
 mod damage;
 mod fault_calls;
@@ -45,6 +46,7 @@ fn every_section() -> Past {
     let mut past = Past::new();
     single::sections(&mut past);
     joining::sections(&mut past);
+    coming_round::sections(&mut past);
     alive_and_clock::sections(&mut past);
     alive_sections::sections(&mut past);
     damage::sections(&mut past);

@@ -49,7 +49,7 @@ senderRows test n1 s h =
     ∷ row 16 (not (possible (h .cut)))
     -- "number check says repeat"
     ∷ row 17 (isRepeat (verdictOf n1 s h))
-    -- "open message has the same version and a larger number"
+    -- "open message has the same version and a" newer "number", by 02, Item 3
     ∷ row 18 (s .«open» && sameVersion s h && newer (s .message .number) (h .given .number))
     -- "same version and number, but TCD, n, TBN or u differ"
     ∷ row 19 (rejoins s h && not (sameCut (s .message) h))
@@ -59,7 +59,7 @@ senderRows test n1 s h =
 
 -- ---- what an admitted PDU does
 
--- "nothing open, it opens"; another version or a larger number: "the new one opens".
+-- "nothing open, it opens"; another version or a newer number: "the new one opens".
 abbrev pub mapBefore : Sender → Head → ℕ
 mapBefore s h = cond (rejoins s h) (s .message .map) 0
 
@@ -86,7 +86,7 @@ fills s h = isFull (mapAfter s h) (h .cut .tbn)
 abbrev pub noneDropped : Dropped
 noneDropped = record { version = record { 0 = 0 }; number = record { 0 = 0 } }
 
--- "Another version than the open one, or the same version and a larger number: the open message is dropped, its version
+-- "Another version than the open one, or the same version and a" newer "number: the open message is dropped, its version
 -- and number stand in the answer (both 0 if none …)"
 unfoldable pub droppedBy : Sender → Head → Dropped
 droppedBy s h =

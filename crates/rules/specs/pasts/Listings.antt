@@ -270,7 +270,7 @@ none-open = question-told 0 false 0 0
 pub data Name : Type 0 where
   the-listing out-of-range not-registered setup-limits refused-setup mode-as-given n1-as-given lowest-number : Name
   message-length packet-length piece-length cut-not-possible number-check unchecked : Name
-  any-order twelve-pieces sixty-four-pieces two-senders empty-part dropped newcomer-of-one open-message : Name
+  any-order twelve-pieces sixty-four-pieces two-senders empty-part dropped newcomer-of-one open-message came-round : Name
   lowest-missing first-open sixteen-senders : Name
   alive-length alive-fields alive-fault seconds alive-stamp dead-by-mode dead-map : Name
   stamp drop-time clock-limits : Name
@@ -480,7 +480,7 @@ listings empty-part =
     ∷ [])
     ((0, both 3 2 ++ (170 ∷ [])) ∷ [])
     ∷ []
--- "Another version than the open one, or the same version and a larger number: the open message is dropped, its version
+-- "Another version than the open one, or the same version and a" newer "number: the open message is dropped, its version
 -- and number stand in the answer (both 0 if none …), and the new one opens."; "join the PDU that caused the drop". Of
 -- the second sender.
 listings dropped =
@@ -504,7 +504,7 @@ listings newcomer-of-one =
     ∷ [])
     ((0, replicate 256 2 ++ (170 ∷ [])) ∷ [])
     ∷ []
--- "18: open message has the same version and a larger number; 19: same version and number, but TCD, n, TBN or u differ;
+-- "18: open message has the same version and a" newer "number; 19: same version and number, but TCD, n, TBN or u differ;
 -- 20: piece already held (octets not compared)"
 listings open-message =
     past raft
@@ -516,6 +516,40 @@ listings open-message =
     ∷ (comes 7 5 100 364 364 1 1 (replicate 300 9), refused 19)
     ∷ (front 7 5 100 9, refused 20)
     ∷ (back 7 5 100 2, delivered 1 (both 1 2))
+    ∷ [])
+    ∷ []
+-- 02, Item 3: "the newcomer is newer when (SEQ − open SEQ) modulo M is 1 to 1,073,741,823, and older when it is larger."
+listings came-round =
+    -- "open M, 1 comes: replaced." What comes of M is then older, and once 1 is delivered a repeat.
+    past raft
+    ((front 7 5 2147483647 1, stored 1)
+    ∷ (front 7 5 1 2, dropping 5 2147483647)
+    ∷ (back 7 5 2147483647 3, refused 18)
+    ∷ (back 7 5 1 4, delivered 1 (both 2 4))
+    ∷ (back 7 5 2147483647 3, refused 17)
+    ∷ [])
+    -- "Open 1, M comes: 18."
+    ∷ past raft ((front 7 5 1 1, stored 1) ∷ (front 7 5 2147483647 2, refused 18) ∷ (lone 7 5 2147483647 3, refused 18) ∷ (back 7 5 1 4, delivered 1 (both 1 4)) ∷ [])
+    -- 1,073,741,824 on, and 1,073,741,823 on: ending below M, at M and above it
+    ∷ past raft
+    ((front 7 5 1 1, stored 1)
+    ∷ (front 7 5 1073741825 2, refused 18)
+    ∷ (front 7 5 1073741824 2, dropping 5 1)
+    ∷ (front 7 5 1 3, refused 18)
+    ∷ (front 7 5 2147483647 3, dropping 5 1073741824)
+    ∷ (front 7 5 1073741824 4, refused 18)
+    ∷ (front 7 5 1073741823 4, dropping 5 2147483647)
+    ∷ (front 7 5 2147483647 5, refused 18)
+    ∷ (front 7 5 2147483646 5, dropping 5 1073741823)
+    ∷ [])
+    -- 17 still comes first: R is 2. Another version always replaces.
+    ∷ past raft
+    ((lone 7 5 2 1, delivered 1 (1 ∷ []))
+    ∷ (front 7 5 3 2, stored 1)
+    ∷ (lone 7 5 2147483647 3, refused 17)
+    ∷ (lone 7 5 2147483632 3, refused 18)
+    ∷ (front 7 6 2147483647 4, dropping 5 3)
+    ∷ (front 7 5 4 5, dropping 6 2147483647)
     ∷ [])
     ∷ []
 -- "which piece is its lowest missing one? The answer is sender and piece, or "none open"." What the clock call dropped

@@ -38,7 +38,7 @@ use Rattle.rules.specs.calls.Part.{storedPart}
 use Rattle.rules.specs.calls.Question.{questionAnswer}
 use Rattle.rules.specs.calls.Setup.{setupWithin, newSenders, setupState, setupAnswer}
 use Rattle.rules.specs.pasts.Past.{World, Event, aside, question, step, said}
-use Rattle.rules.specs.pasts.Listings.{Line, line, numbers, address, raft, of64, stored, missing, refused as refused-with, same, holds, told, met, all, Name, the-listing, out-of-range, not-registered, setup-limits, refused-setup, mode-as-given, n1-as-given, lowest-number, message-length, packet-length, piece-length, cut-not-possible, number-check, unchecked, any-order, twelve-pieces, sixty-four-pieces, two-senders, empty-part, dropped, newcomer-of-one, open-message, lowest-missing, first-open, sixteen-senders, alive-length, alive-fields, alive-fault, seconds, alive-stamp, dead-by-mode, dead-map, stamp, drop-time, clock-limits, listings}
+use Rattle.rules.specs.pasts.Listings.{Line, line, numbers, address, raft, of64, stored, missing, refused as refused-with, same, holds, told, met, all, Name, the-listing, out-of-range, not-registered, setup-limits, refused-setup, mode-as-given, n1-as-given, lowest-number, message-length, packet-length, piece-length, cut-not-possible, number-check, unchecked, any-order, twelve-pieces, sixty-four-pieces, two-senders, empty-part, dropped, newcomer-of-one, open-message, came-round, lowest-missing, first-open, sixteen-senders, alive-length, alive-fields, alive-fault, seconds, alive-stamp, dead-by-mode, dead-map, stamp, drop-time, clock-limits, listings}
 
 -- All that is computed with stands in this line, but for `ones`: who unfolds `kept` unfolds it.
 kept : Name → Bool
@@ -238,6 +238,10 @@ open-message-kept : kept open-message ≡ true
 unfolding kept ones
 open-message-kept = refl {a = true}
 
+came-round-kept : kept came-round ≡ true
+unfolding kept ones
+came-round-kept = refl {a = true}
+
 lowest-missing-kept : kept lowest-missing ≡ true
 unfolding kept ones
 lowest-missing-kept = refl {a = true}
@@ -314,6 +318,7 @@ every-listing empty-part = empty-part-kept
 every-listing dropped = dropped-kept
 every-listing newcomer-of-one = newcomer-of-one-kept
 every-listing open-message = open-message-kept
+every-listing came-round = came-round-kept
 every-listing lowest-missing = lowest-missing-kept
 every-listing first-open = first-open-kept
 every-listing sixteen-senders = sixteen-senders-kept
