@@ -4,4 +4,5 @@ pub mod Past
 pub mod Listings
 -- Proved of them.
 pub mod PastLaws
+pub mod listed
 pub mod ListingsLaws

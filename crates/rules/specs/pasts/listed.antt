@@ -1,0 +1,10 @@
+-- The listings, computed: a law for each, in a file with those of its kind.
+pub mod Computing
+pub mod SetupsLaws
+pub mod PacketsLaws
+pub mod NumbersLaws
+pub mod JoinsLaws
+pub mod DropsLaws
+pub mod SignalsLaws
+pub mod ClocksLaws
+pub mod SixtyFourLaws
