@@ -47,7 +47,8 @@ enum {
     ADP_TEST_MODE = 15,   /* a test message at an online node */
     ADP_BAD_CUT = 16,     /* no message can be cut so */
     ADP_REPEAT = 17,      /* delivered before */
-    ADP_OLDER = 18,       /* the open message has the same version and a newer number */
+    ADP_OLDER = 18,       /* the open message has the same version and a newer number: 1 to 1,073,741,823 on from this
+                           * one, where 1 comes behind 2,147,483,647 */
     ADP_UNLIKE = 19,      /* same version and number as the open message, another code, length or cut */
     ADP_HELD = 20,        /* the piece is held already; whether its octets are the same is not compared */
     ADP_BAD_CLOCK = 21,   /* the clock goes back, or above its limit of 1,099,511,627,776 ms */

@@ -2,12 +2,12 @@
 use Prim.Native.Nat.{ℕ, _≤_, _<_}
 use mathlib.Core.Path.{_≡_, refl, sym, ap, subst, _∙_}
 use mathlib.Core.Logic.{_≢_, _⊎_, inl, inr, ⊎-elim}
-use mathlib.Core.Bool.{Bool, true, false, cond, _&&_}
+use mathlib.Core.Bool.{Bool, true, false, _&&_}
 use mathlib.Core.List.{List, [], _∷_}
 use native.Mathlib.Omega.{arith}
 use lib.Dec.{eqb}
 use lib.ListN.{length}
-use borrow.Author.Tests.{eq-eqb, ne-eqb, eqb-true, eqb-false}
+use borrow.Author.Tests.{eq-eqb, ne-eqb}
 use Rattle.octets.specs.Split.{cond-case, eq-or-ne}
 use Rattle.ring.specs.declared.Number.{Number}
 use Rattle.ring.specs.declared.Verdict.{Verdict}
@@ -22,7 +22,7 @@ use Rattle.answers.specs.Told.{MessageTold}
 use Rattle.rules.specs.calls.First.{Row, row, first}
 use Rattle.rules.specs.calls.FirstLaws.{first-here, first-later}
 use Rattle.promised.specs.Join.{kinOf, numberIn}
-use Rattle.promised.specs.Log.{Exchange, Name, nameOf, deliveries, lastOf, sameMessage, acceptedWith, openOf}
+use Rattle.promised.specs.Log.{Exchange, Name, nameOf, deliveries, lastOf, sameMessage, acceptedWith}
 use Rattle.promised.specs.Says.{sendersOf, placeOf, newerIsOpen, differs, hasPiece, rowsFor, droppedName, messageBy, verdictAfter, messageSays}
 use Rattle.promised.specs.Newcomer.{Under, LiesOn, Replaces, Newcomer}
 

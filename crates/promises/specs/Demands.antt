@@ -1,7 +1,7 @@
 -- The user's three demands, clause by clause, and what 02's requests add to them, each as a statement about every program
 -- whose calls meet the public contracts (Course.antt). The words that they are written in stand in `promised`: Log and
--- Says (what is said by setup and calls alone), Join (safety), Delivery, AlivePast; and here in AsPrinted and Counted. No
--- state is named but where any state may come, and where 02 names the map. Proved in Kept.antt.
+-- Says (what is said by setup and calls alone), Join (safety), Delivery, Newcomer, AlivePast; and here in AsPrinted and
+-- Counted. No state is named but where any state may come, and where 02 names the map. Proved in Kept.antt.
 --
 -- Of demand 1, "Nothing is read or written outside what was lent, and every call ends" is what the proof of every
 -- function shows, contract or not.

@@ -2,7 +2,7 @@
 -- worked out by hand.
 use Prim.Native.Nat.{ℕ}
 use mathlib.Core.Path.{_≡_, refl}
-use mathlib.Core.Bool.{Bool, true, false, not, _&&_}
+use mathlib.Core.Bool.{Bool, true, not, _&&_}
 use mathlib.Core.List.{List, [], _∷_}
 use Rattle.ring.specs.declared.Number.{Number}
 use Rattle.ring.specs.Ring.{remainder, newer}

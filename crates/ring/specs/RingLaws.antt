@@ -1,5 +1,5 @@
 -- Laws of the ring. Assumes nothing.
-use mathlib.Core.Path.{_≡_, refl, ap, _∙_}
+use mathlib.Core.Path.{_≡_, refl, ap}
 use mathlib.Core.Logic.{_≢_, ⊎-elim}
 use mathlib.Core.Bool.{true, false}
 use Prim.Native.Nat.{ℕ, _+_, _-_, _%_, _≤_, _<_}
@@ -57,9 +57,9 @@ unfolding remainder
 remainder-round a b n = omega arith
 
 -- From a number to itself there is no way to go; on the ring, to no other.
-pub remainder-same : (a : ℕ) → remainder a a ≡ 0
+pub remainder-same : (a b : ℕ) → a ≡ b → remainder a b ≡ 0
 unfolding remainder
-remainder-same a = omega arith
+remainder-same a b e = omega arith
 
 pub remainder-none : (a b : ℕ) → OnRing a → OnRing b → remainder a b ≡ 0 → a ≡ b
 unfolding remainder
@@ -103,7 +103,7 @@ one-order a b ha hb = ⊎-elim
     (eq-or-ne (back a b) 0)
   where
     apart : back a b ≢ 0 → a .0 ≢ b .0
-    apart n e = n (ap (λ (x : ℕ). remainder x (b .0)) e ∙ remainder-same (b .0))
+    apart n e = n (remainder-same (a .0) (b .0) e)
 
 -- But it is no order: it goes round. Of these three, a third of the ring apart, each is newer than the one before, and the
 -- first newer than the last. So what is newer than a newer number need not be newer, and no proof rests on that.

@@ -59,10 +59,13 @@ fn on_ring(x: u32) -> u32
     if x < M { x } else { x % M }
 }
 
-// Whether a is newer than b: 1 to HALF on from it.
+// Whether a is newer than b: 1 to HALF on from it. Of one number, as with every piece that joins, no way is measured.
 pub fn newer(a: Number, b: Number) -> bool
     ensures { λ x. ⌜ x ≡ isNewer a b ⌝ }
 {
+    if a.0 == b.0 {
+        return false;
+    }
     let d = back(a, b);
     (1 <= d) & (d <= HALF)
 }
