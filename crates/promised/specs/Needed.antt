@@ -1,7 +1,8 @@
 -- The conditions of delivery can be met, and each is needed: what is said of that, and the pasts that show it, one for
--- each condition. So the theorem says something, and asks for nothing that could be left out. The conditions are those
--- of `Delivery`, one by one, and are said by setup's arguments and the log alone; a world stands here only so that the
--- calls' answers can be computed. Nothing is proved here; `NeededLaws` proves it by computing.
+-- each condition, and one more where the numbers have come round. So the theorem says something, and asks for nothing
+-- that could be left out. The conditions are those of `Delivery`, one by one, and are said by setup's arguments and the
+-- log alone; a world stands here only so that the calls' answers can be computed. Nothing is proved here; `NeededLaws`
+-- proves it by computing.
 use Prim.Native.Nat.{ℕ, _*_, _≤_, _<_}
 use mathlib.Core.Path.{_≡_}
 use mathlib.Core.Logic.{_≢_}

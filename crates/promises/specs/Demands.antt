@@ -50,7 +50,7 @@ use Rattle.promised.specs.AlivePast.{AliveBy}
 use Rattle.promised.specs.Delivery.{Sent, sentBy, Numbered, PieceOf, May, Between, OnlyPieces, verdictFor, OneApplies, Arrives, Once, Listed}
 use Rattle.promised.specs.Join.{Joined}
 use Rattle.promised.specs.Log.{toldBy, Exchange, logged, Name, nameOf, deliveries, acceptedWith, openOf, lifeOf}
-use Rattle.promised.specs.Newcomer.{Under, Newcomer}
+use Rattle.promised.specs.Newcomer.{Under, freshTold, Newcomer}
 use Rattle.promised.specs.Says.{sendersOf, placeOf, heldSays, says, logOf}
 use Rattle.promises.specs.AsPrinted.{CuttingAsPrinted}
 use Rattle.promises.specs.Board.{BoardBegins, BoardIsCourse}
@@ -320,7 +320,7 @@ EveryFaultEdge = fault-edges.all fault-edges.edges ≡ true
 -- to 1,073,741,823, and older when it is larger". Which of two numbers that makes the newer one is `NewerAsPrinted`.
 abbrev pub NewcomerSaid : Type 0
 NewcomerSaid = AfterPast (λ q log v. (packet : List ℕ) (r : Said (message packet)) (u : World) → Meets v (message packet) r u
-    → (opened : Name) → Under q log packet opened → Newcomer (nameOf packet) opened (messageTold (r .0)))
+    → (opened : Name) → Under q log packet opened → Newcomer (nameOf packet) opened (freshTold q log packet) (messageTold (r .0)))
 
 -- The table of edges.
 abbrev pub EveryNewerEdge : Type 0

@@ -48,7 +48,7 @@ use Rattle.promised.specs.Delivery.{Sent, Between, OnlyPieces, verdictFor, Arri
 use Rattle.promised.specs.DeliveryLaws.{arrives-only}
 use Rattle.promised.specs.ListedLaws.{listed-only}
 use Rattle.promised.specs.AgreesLaws.{Agrees, agrees-start}
-use Rattle.promised.specs.Newcomer.{Newcomer}
+use Rattle.promised.specs.Newcomer.{freshTold, Newcomer}
 use Rattle.promised.specs.NewcomerLaws as newcomer
 use Rattle.promised.specs.PastSaysLaws.{says-is, agrees-after, log-is, alive-told}
 use Rattle.promised.specs.MessageSaysLaws.{safe}
@@ -259,7 +259,7 @@ held-is-ones q r w m es rs v c i k here asked =
 pub newcomer-said : NewcomerSaid
 unfolding says
 newcomer-said q r w m es rs v c packet a u meets opened under =
-    subst (λ (t : MessageTold). Newcomer (nameOf packet) opened t)
+    subst (λ (t : MessageTold). Newcomer (nameOf packet) opened (freshTold q (logged [] es rs) packet) t)
     (ap (λ (t : MessageTold × List ℕ). t .0) (sym (every-said q r w m es rs v c (message packet) a u meets)))
     (newcomer.newcomer-said q (logged [] es rs) packet opened under)
 

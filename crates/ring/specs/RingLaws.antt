@@ -56,7 +56,7 @@ pub remainder-round : (a b : ℕ) → remainder a b ≢ 0 → remainder a b + re
 unfolding remainder
 remainder-round a b n = omega arith
 
--- From a number to itself there is no way to go; on the ring, to no other.
+-- The way from a number to itself is 0, and on the ring to no other number.
 pub remainder-same : (a b : ℕ) → a ≡ b → remainder a b ≡ 0
 unfolding remainder
 remainder-same a b e = omega arith

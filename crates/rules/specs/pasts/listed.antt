@@ -1,4 +1,4 @@
--- The listings, computed: a law for each, in a file with those of its kind.
+-- The listings, computed: a law for each, so that the log says which is refused, in a file with those of its kind.
 pub mod Computing
 pub mod SetupsLaws
 pub mod PacketsLaws
