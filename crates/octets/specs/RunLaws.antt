@@ -1,10 +1,12 @@
 -- Laws of runs: what was laid down is there, and all else stays. Assumes nothing.
 use mathlib.Core.Path.{_≡_, sym, ap, _∙_}
 use mathlib.Core.Logic.{_⊎_, ⊎-elim}
+use mathlib.Core.Bool.{false}
 use mathlib.Core.List.{List, [], _++_, append-assoc, append-nil}
 use Prim.Native.Nat.{ℕ, _+_, _-_, _≤_, _<_}
 use native.Mathlib.Nat.{add-assoc}
 use native.Mathlib.Omega.{arith}
+use lib.Dec.{leb}
 use lib.ListN.{length, take, drop, take-append-drop, drop-of-length-le, length-append, length-take, length-drop, List·getD-append}
 use lib.Seq.{drop-append-le, take-append-le, take-append-seam, take-take, length-take-le, getD-append-add, getD-take, getD-drop, take-add, paste, take-length, take-at, drop-at, drop-drop, drop-append-seam}
 use borrow.Author.Tests.{le-leb, lt-leb}
@@ -13,9 +15,12 @@ use Rattle.octets.specs.Run.{run, laid}
 use Rattle.octets.specs.Split.{lt-or-le}
 
 -- What is longer than the room behind its place is not laid down.
-pub laid-past : (s : List ℕ) (at : ℕ) (p : List ℕ) → length s < at + length p → laid s at p ≡ s
+pub laid-unfit : (s : List ℕ) (at : ℕ) (p : List ℕ) → leb (at + length p) (length s) ≡ false → laid s at p ≡ s
 unfolding laid
-laid-past s at p h = rw (lt-leb (at + length p) (length s) h)
+laid-unfit s at p e = rw e
+
+pub laid-past : (s : List ℕ) (at : ℕ) (p : List ℕ) → length s < at + length p → laid s at p ≡ s
+laid-past s at p h = laid-unfit s at p (lt-leb (at + length p) (length s) h)
 
 pub laid-fits : (s : List ℕ) (at : ℕ) (p : List ℕ) → at + length p ≤ length s
     → laid s at p ≡ take at s ++ (p ++ drop (at + length p) s)

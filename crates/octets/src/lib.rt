@@ -5,6 +5,7 @@
 // down at all, and the slice stays as it is. Nothing here knows of ADP.
 ghost use mathlib.Core.Path.{_≡_};
 ghost use Prim.Native.Nat.{_+_, _≤_, _<_};
+ghost use lib.Dec.{leb};
 ghost use lib.ListN.{length, drop};
 ghost use Rattle.octets.specs.Number.{number, octets};
 ghost use Rattle.octets.specs.Run.{run as runOf, laid};
@@ -66,11 +67,19 @@ pub fn run(s: &[u8], at: usize, n: usize) -> &[u8]
 pub fn lay(s: &mut [u8], at: usize, run: &[u8])
     ensures { λ _. ⌜ now (s .exit) ≡ laid (now (s .entry)) at (now (run .entry)) ⌝ }
 {
-    if run.len() <= s.len() {
-        if at <= s.len() - run.len() {
-            move_over(s, at, run);
-        }
+    if ends_within(s.len(), at, run.len()) {
+        move_over(s, at, run);
     }
+}
+
+// Whether n octets from a place on end within the room.
+fn ends_within(room: usize, at: usize, n: usize) -> bool
+    ensures { λ r. ⌜ r ≡ leb (at + n) room ⌝ }
+{
+    if room < n {
+        return false;
+    }
+    at <= room - n
 }
 
 // Lays down a run that ends within the slice. The compiler does not know that run and slice lie apart, so it leaves a

@@ -1,17 +1,16 @@
 -- The run is laid down exactly where it ends within the slice. Assumes nothing.
-use mathlib.Core.Path.{sym}
-use native.Mathlib.Omega.{arith}
-use denote.Ref.{now}
-use Rattle.octets.specs.RunLaws.{laid-past}
+use mathlib.Core.Path.{sym, _∙_}
 use borrow.Author.Needs.{needs}
+use borrow.Author.Tests.{leb-true}
+use Rattle.octets.specs.RunLaws.{laid-unfit}
 use Rattle.octets.proofs.lay.Statement.{statement}
 use Rattle.octets.proofs.lay.Tie as tie
 
-sub-if2 : tie.Need-sub-if2
-sub-if2 c = search needs
+ends-within-requires : tie.Need-ends-within-requires
+ends-within-requires c κs = search needs
 
 move-over-requires : tie.Need-move-over-requires
-move-over-requires c κs = search needs
+move-over-requires c κs = let room = c .before in leb-true _ _ (sym (room .before .ends-within .ensures) ∙ room .if1 .taken)
 
 same-length : tie.Need-same-length
 same-length c = search needs
@@ -20,10 +19,7 @@ returns : tie.Need-returns
 returns c = search needs
 
 returns-2 : tie.Need-returns-2
-returns-2 c = let a = c .before .before .before .before .args in sym (laid-past (now (a .s)) (a .at) (now (a .run)) (omega arith))
-
-returns-3 : tie.Need-returns-3
-returns-3 c = let a = c .before .before .before .args in sym (laid-past (now (a .s)) (a .at) (now (a .run)) (omega arith))
+returns-2 c = sym (laid-unfit _ _ _ (sym (c .before .ends-within .ensures) ∙ c .if1 .left))
 
 pub lay-spec : {M : Type 1} → statement M
-lay-spec = tie.close (tie.spec sub-if2 move-over-requires same-length returns returns-2 returns-3)
+lay-spec = tie.close (tie.spec ends-within-requires move-over-requires same-length returns returns-2)
