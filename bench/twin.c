@@ -310,25 +310,39 @@ uint64_t twin_pages(uint8_t mode, uint16_t n1, uint32_t t, uint8_t senders, cons
 
 /* ---- cutting */
 
+/* Stores each octet of a run once, in rising order, as the other sides do: what is volatile the compiler neither moves
+ * nor joins, and the C library's memcpy is not called, which stores some octets twice. */
+static inline void store_once(uint8_t *to, const uint8_t *from, size_t n) {
+    typedef uint64_t __attribute__((vector_size(16), aligned(1), may_alias)) sixteen;
+    typedef uint32_t __attribute__((aligned(1), may_alias)) four;
+    size_t i = 0;
+    for (; i + 64 <= n; i += 64)
+        for (size_t k = 0; k < 64; k += 16) *(volatile sixteen *)(to + i + k) = *(const sixteen *)(from + i + k);
+    for (; i + 16 <= n; i += 16) *(volatile sixteen *)(to + i) = *(const sixteen *)(from + i);
+    for (; i + 4 <= n; i += 4) *(volatile four *)(to + i) = *(const four *)(from + i);
+    for (; i < n; i++) *(volatile uint8_t *)(to + i) = from[i];
+}
+
 /* The PDU of piece c of the message with this number: its length, or 0 on a refusal with 23. */
 static inline size_t cut(uint32_t number, const uint8_t *message, size_t n, uint16_t u, uint8_t c, uint8_t *buffer, size_t room) {
     size_t pieces = n <= u ? 1 : u == 0 ? 0 : (n - 1) / u + 1;
     if (!is_number(number) || n > AREA || !is_unit(u) || c == 0 || c > pieces) return 0;
     size_t start = (size_t)(c - 1) * u, own = c < pieces ? u : n - start;
     if (room < HEADER + own) return 0;
-    memset(buffer, 0, HEADER);
-    memcpy(buffer + H_TYPE, "NUXM", 4);
-    write4(buffer + ML, (uint32_t)n + HEADER);
-    buffer[DATA_FIELD] = 1;
-    write2(buffer + NODE, 1);
-    write4(buffer + V_SEQ, 1);
-    write4(buffer + SEQ, number);
-    write2(buffer + TCD, 1);
-    buffer[PVER] = 1;
-    buffer[CBN] = c;
-    buffer[TBN] = (uint8_t)pieces;
-    write2(buffer + BSIZE, (uint16_t)(own + HEADER));
-    memcpy(buffer + HEADER, message + start, own);
+    uint8_t head[HEADER] = {0};
+    memcpy(head + H_TYPE, "NUXM", 4);
+    write4(head + ML, (uint32_t)n + HEADER);
+    head[DATA_FIELD] = 1;
+    write2(head + NODE, 1);
+    write4(head + V_SEQ, 1);
+    write4(head + SEQ, number);
+    write2(head + TCD, 1);
+    head[PVER] = 1;
+    head[CBN] = c;
+    head[TBN] = (uint8_t)pieces;
+    write2(head + BSIZE, (uint16_t)(own + HEADER));
+    store_once(buffer, head, HEADER);
+    store_once(buffer + HEADER, message + start, own);
     return HEADER + own;
 }
 

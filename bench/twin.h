@@ -47,10 +47,14 @@ typedef void reads_call(const uint8_t *sections, size_t size, size_t count, stru
 typedef void shows_call(const uint8_t *sections, size_t size, size_t count, struct shown *answers);
 typedef void writes_call(const struct parts *given, size_t count, uint8_t *buffers, size_t room,
                          struct adp_written *answers);
+/* writes the 64 octets of a header where there is room for them, and otherwise nothing; for bench/stores alone */
+typedef void head_call(uint32_t number, uint32_t ml, uint16_t bsize, uint8_t cbn, uint8_t tbn, uint8_t *buffer,
+                       size_t room);
 
 night_call adp_night, board_night, twin_night;
 pages_call adp_pages, board_pages, twin_pages;
 cuts_call adp_cuts, board_cuts, twin_cuts;
+head_call adp_head;
 reads_call board_reads, twin_reads;
 shows_call board_shows, twin_shows;
 writes_call board_writes, twin_writes;

@@ -169,7 +169,9 @@ struct adp_missing adp_question(const uint64_t *state, size_t words);
  * pieces. 0 past the senders, and where nothing is open. */
 uint8_t adp_held(const uint64_t *state, size_t words, uint8_t place);
 
-/* Writes the PDU of one piece, from 1, of a message cut into pieces of `u` octets. Octets behind the PDU stay. */
+/* Writes the PDU of one piece, from 1, of a message cut into pieces of `u` octets. Octets behind the PDU stay.
+ * The buffer may be slow shared memory: each octet of the PDU is stored once, from the first to the last, and nothing
+ * of the buffer is read; a refusal stores nothing (bench/stores shows that of the archive). */
 struct adp_cutting adp_cut(struct adp_given given, const uint8_t *message, size_t length, uint16_t u, uint8_t piece,
                            uint8_t *buffer, size_t room);
 

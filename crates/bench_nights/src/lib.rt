@@ -1,14 +1,15 @@
 // Whole nights in one call, for the bench: a receiver is set up and given the packets that lie one behind the other in
-// a lent slice, behind them the maintenance page asks, and a message is cut piece by piece. A program in C lends the
-// octets, and measures.
+// a lent slice, behind them the maintenance page asks; a message is cut piece by piece; a header is written by itself. A
+// program in C lends the octets, and measures.
 //
 // What is answered is one number made of all answers, so that none can be left out and two programs are quickly
 // compared.
 ghost use mathlib.Core.Path.{_≡_};
+ghost use Rattle.header.specs.Head.{headed};
 ghost use Rattle.state.specs.State.{sendersMost};
 ghost use Rattle.rules.specs.pasts.Past.{after};
 ghost use Rattle.bench_nights.specs.Night.{nodesTo, boardOf, begun, packetsBy, summed, nightSum};
-ghost use Rattle.bench_nights.specs.Cuts.{givenOf, cutSum, cutsSum, cutsBuffer};
+ghost use Rattle.bench_nights.specs.Cuts.{givenOf, headFor, cutSum, cutsSum, cutsBuffer};
 ghost use Rattle.bench_nights.specs.Pages.{heldSum};
 use answers::Answer;
 use answers::Dropped;
@@ -17,9 +18,12 @@ use answers::Setup;
 use answers::Where;
 use cut::cutter::Cutting;
 use cut::cutter::cutter;
+use header::Cut;
 use header::Given;
+use header::Head;
 use header::codes::DataField;
 use header::codes::Node;
+use header::write_head;
 use octets::run;
 use receiver::message::message;
 use receiver::part::part;
@@ -83,6 +87,21 @@ pub extern "C" fn adp_cuts(number: u32, message: &[u8], u: u16, last: u8, buffer
         sum = with_cut(sum, cutting);
     }
     sum
+}
+
+// A header by itself: the values of a message with this number, and what the cut makes.
+#[no_mangle]
+pub extern "C" fn adp_head(number: u32, ml: u32, bsize: u16, cbn: u8, tbn: u8, buffer: &mut [u8])
+    ensures { λ _. ⌜ now (buffer .exit) ≡ headed (now (buffer .entry)) (headFor number ml bsize cbn tbn) ⌝ }
+{
+    let given = given_of(number);
+    let cut = Cut {
+        ml,
+        bsize,
+        cbn,
+        tbn,
+    };
+    write_head(buffer, Head { given, cut });
 }
 
 // ---- what a night starts with

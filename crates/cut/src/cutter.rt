@@ -20,7 +20,7 @@ use header::codes::code_of;
 use header::codes::is_mode;
 use header::codes::is_pri;
 use header::write_head;
-use octets::lay;
+use octets::lay_once;
 
 pub enum Cutting {
     // the PDU's length
@@ -50,8 +50,8 @@ impl Cutting {
     }
 }
 
-// All refusals have one number, so what costs least is tried first; the pieces are counted once. The buffer is written
-// when nothing is left to refuse.
+// All refusals have one number, so what costs least is tried first; the pieces are counted once. The buffer may be slow
+// memory: nothing is stored before nothing is left to refuse, and then each octet of the PDU once, in rising order.
 pub fn cutter(given: Given, message: &[u8], u: u16, piece: u8, buffer: &mut [u8]) -> Cutting
     ensures answer { λ r. ⌜ r ≡ cutterAnswer given (now (message .entry)) u piece (length (now (buffer .entry))) ⌝ }
     ensures written { λ _. ⌜ now (buffer .exit) ≡ cutterBuffer given (now (message .entry)) u piece (now (buffer .entry)) ⌝ }
@@ -120,5 +120,5 @@ fn write_pdu(given: Given, message: &[u8], u: u16, piece: u8, cut: Cut, buffer: 
     let start = piece_place(u, piece);
     let own = cut.bsize as usize - SIZE;
     write_head(buffer, Head { given, cut });
-    lay(buffer, SIZE, &message[start..start + own]);
+    lay_once(buffer, SIZE, &message[start..start + own]);
 }

@@ -2,54 +2,48 @@
 -- header of what is read. Assumes nothing.
 use mathlib.Core.Path.{_≡_, refl, sym, ap, _∙_}
 use mathlib.Core.Bool.{true, _&&_}
-use mathlib.Core.List.{List, [], _∷_, _++_, append-assoc, append-nil}
+use mathlib.Core.List.{List, _++_, append-assoc}
 use Prim.Native.Nat.{ℕ, _+_, _^_, _≤_, _<_}
-use native.Mathlib.Nat.{zero-add, le-refl}
+use native.Mathlib.Nat.{zero-add}
 use native.Mathlib.Omega.{arith}
-use lib.ListN.{length, take, drop, replicate, getD-replicate, length-append, length-drop}
+use lib.ListN.{length, take, drop, length-append, length-drop}
 use lib.Seq.{take-at, drop-drop, drop-append-add}
 use lib.Dec.{eqb}
-use borrow.Author.Tests.{eqb-true, le-leb}
+use borrow.Author.Tests.{eqb-true, le-leb, lt-leb}
 use Rattle.octets.specs.Run.{laid}
 use Rattle.octets.specs.RunLaws.{laid-fits}
 use Rattle.octets.specs.NumberLaws.{Octets, number-bound}
 use Rattle.octets.specs.Split.{and-left, and-right}
 use Rattle.header.specs.declared.Head.{Head}
-use Rattle.header.specs.Layout.{Slot, slotOf, slotsOf, layout}
-use Rattle.header.specs.LayoutLaws.{Lit, done, lit, unlit, In, nth-in, fill, fill-layout, layout-slot, length-layout, none, more, layout-read}
+use Rattle.header.specs.Layout.{slotOf}
+use Rattle.header.specs.LayoutLaws.{In, nth-in, fill-append, fill-layout, layout-slot, length-layout, none, more, layout-read}
 use Rattle.header.specs.Places.{Field, place, headerSize, slots, places-apart, places-end, places-cover}
 use Rattle.header.specs.Places.Field.{hType, ml, domain, dataField, node, da, vSeq, seq, mCtl, inqId, tcd, ver, gtid, mode, pver, pri, cbn, tbn, bsize, fui}
 use Rattle.header.specs.Head.{valueAt, nuxm, value, header, headOf, headed, isFixed}
-
--- The slots that are not fixed to 0, which is what is left to lay over 64 octets of 0.
-abbrev pub litSlots : Head → List Slot
-litSlots h = slotsOf place (value h) (hType ∷ ml ∷ dataField ∷ node ∷ da ∷ vSeq ∷ seq ∷ mCtl ∷ tcd ∷ mode ∷ pver ∷ pri ∷ cbn ∷ tbn ∷ bsize ∷ [])
-
-slots-lit : (h : Head) → Lit (slots (value h)) (litSlots h)
-slots-lit h =
-    lit (lit (unlit refl (lit (lit (lit (lit (lit (lit (unlit refl (lit (unlit refl (unlit refl
-    (lit (lit (lit (lit (lit (lit (unlit refl done)))))))))))))))))))
-
--- Laid over 64 octets of 0, they make the header.
-pub zeros-filled : (h : Head) → fill (litSlots h) (replicate headerSize 0) ≡ header h
-unfolding header
-zeros-filled h =
-    fill-layout headerSize (slots (value h)) (litSlots h) (replicate headerSize 0) (slots-lit h) (places-apart (value h)) (places-end (value h))
-    (le-refl headerSize) (λ i q. getD-replicate {A = ℕ} headerSize i 0 0 q)
-    ∙ append-nil (layout headerSize (slots (value h)))
+use Rattle.header.specs.private.Filled.{fill, frontSlots, middleSlots, backSlots}
 
 pub length-header : (h : Head) → length (header h) ≡ headerSize
 unfolding header
 length-header h = length-layout headerSize (slots (value h))
 
--- Laid down at the front, the header is written, all behind it stays, and a buffer that has no room for it too.
-pub laid-headed : (s : List ℕ) (h : Head) → laid s 0 (header h) ≡ headed s h
-unfolding laid headed
-laid-headed s h = rw (length-header h)
+-- A buffer that has no room for a header stays,
+pub headed-short : (s : List ℕ) (h : Head) → length s < headerSize → headed s h ≡ s
+unfolding headed
+headed-short s h short = rw (lt-leb headerSize (length s) short)
 
+-- and of one that has room for it all behind it.
 pub headed-fits : (s : List ℕ) (h : Head) → headerSize ≤ length s → headed s h ≡ header h ++ drop headerSize s
 unfolding headed
 headed-fits s h room = rw (le-leb headerSize (length s) room)
+
+-- The parts of Table 7 written one after the other are the header.
+pub filled-headed : (s : List ℕ) (h : Head) → headerSize ≤ length s
+    → fill (backSlots h) (fill (middleSlots h) (fill (frontSlots h) s)) ≡ headed s h
+unfolding header
+filled-headed s h room =
+    fill-append (middleSlots h) (backSlots h) (fill (frontSlots h) s) ∙ fill-append (frontSlots h) (middleSlots h ++ backSlots h) s
+    ∙ fill-layout headerSize (slots (value h)) s (places-apart (value h)) (places-end (value h)) (places-cover (value h)) room
+    ∙ sym (headed-fits s h room)
 
 -- ---- what was written reads back
 

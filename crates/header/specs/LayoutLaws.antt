@@ -1,11 +1,10 @@
--- Laws of layouts, over any slots that do not overlap: what is written slot by slot is the layout, each slot reads
--- back, and what is read makes up the octets that it was read from. Assumes nothing.
+-- Laws of layouts, over any slots that do not overlap: what is written slot by slot is the layout where the slots cover
+-- it, each slot reads back, and what is read makes up the octets that it was read from. Assumes nothing.
 use mathlib.Core.Path.{_≡_, refl, sym, ap, _∙_}
 use mathlib.Core.Logic.{_⊎_, inl, inr, ⊎-elim}
 use mathlib.Core.Bool.{Bool, true, false, _||_}
 use mathlib.Core.List.{List, [], _∷_, _++_}
 use Prim.Native.Nat.{ℕ, zero, suc, _+_, _-_, _^_, _≤_, _<_}
-use native.Mathlib.Nat.{zero-div, zero-mod}
 use native.Mathlib.Omega.{arith}
 use lib.Dec.{leb, ltb}
 use lib.ListN.{length, take, drop, length-append, length-take, length-drop, List·getD-append}
@@ -17,6 +16,7 @@ use Rattle.octets.specs.Run.{laid}
 use Rattle.octets.specs.RunLaws.{laid-in, laid-out, length-laid}
 use Rattle.octets.specs.Split.{lt-or-le, true-or-false, never-both, both, not-both, and-left, and-right, either}
 use Rattle.header.specs.Layout.{Slot, end, spans, octetOf, tabulate, layout, apartFrom, apart, endsBy, spanned, covers}
+use Rattle.header.specs.private.Filled.{fill}
 
 -- ---- tabulated lists
 
@@ -88,10 +88,6 @@ module _ (r : Slot) (q : Slot) (rs : List Slot) (a : apartFrom r (q ∷ rs) ≡ 
   unfolding apartFrom
   apart-tail = and-right (leb (end r) (q .start) || leb (end q) (r .start)) (apartFrom r rs) a
 
-apart-cons : (r q : Slot) (rs : List Slot) → leb (end r) (q .start) || leb (end q) (r .start) ≡ true → apartFrom r rs ≡ true → apartFrom r (q ∷ rs) ≡ true
-unfolding apartFrom
-apart-cons r q rs a b = both (leb (end r) (q .start) || leb (end q) (r .start)) (apartFrom r rs) a b
-
 octetOf-none : (r : Slot) (rs : List Slot) (z i : ℕ) → apartFrom r rs ≡ true → spans r i ≡ true → octetOf rs z i ≡ z
 octetOf-none r [] z i a h = unfold octetOf in refl
 octetOf-none r (q ∷ rs) z i a h =
@@ -105,10 +101,6 @@ module _ (r : Slot) (rs : List Slot) (a : apart (r ∷ rs) ≡ true) where
   apart-rest : apart rs ≡ true
   unfolding apart
   apart-rest = and-right (apartFrom r rs) (apart rs) a
-
-ends-cons : (n : ℕ) (r : Slot) (rs : List Slot) → end r ≤ n → endsBy n rs ≡ true → endsBy n (r ∷ rs) ≡ true
-unfolding endsBy
-ends-cons n r rs h b = both (leb (end r) n) (endsBy n rs) (le-leb (end r) n h) b
 
 module _ (n : ℕ) (r : Slot) (rs : List Slot) (b : endsBy n (r ∷ rs) ≡ true) where
   ends-first : end r ≤ n
@@ -134,11 +126,6 @@ octetOf-above n (r ∷ rs) z i b h =
     ∙ octetOf-above n rs z i (ends-rest n r rs b) h
 
 -- ---- writing slot by slot
-
--- The slots' numbers written one after the other.
-unfoldable pub fill : List Slot → List ℕ → List ℕ
-fill [] s = s
-fill (r ∷ rs) s = fill rs (laid s (r .start) (octets (r .size) (r .value)))
 
 fill-cons : (r : Slot) (rs : List Slot) (s : List ℕ) → fill (r ∷ rs) s ≡ fill rs (laid s (r .start) (octets (r .size) (r .value)))
 unfolding fill
@@ -198,84 +185,50 @@ fill-octet (r ∷ rs) s i a b =
     ap (λ (z : ℕ). octetOf rs z i) (slot-out r s f i h) ∙ sym (octetOf-past r rs (octet s i) i h))
     (true-or-false (spans r i))
 
--- ---- slots that hold 0 need not be written where all is 0
+pub fill-append : (rs qs : List Slot) (s : List ℕ) → fill qs (fill rs s) ≡ fill (rs ++ qs) s
+unfolding fill
+fill-append [] qs s = refl
+fill-append (r ∷ rs) qs s = fill-append rs qs (laid s (r .start) (octets (r .size) (r .value)))
 
-pub data Lit : List Slot → List Slot → Type 0 where
-  done : Lit [] []
-  lit : {r : Slot} {rs qs : List Slot} → Lit rs qs → Lit (r ∷ rs) (r ∷ qs)
-  unlit : {r : Slot} {rs qs : List Slot} → r .value ≡ 0 → Lit rs qs → Lit (r ∷ rs) qs
+-- ---- slots that cover every place
 
-octets-zero : (w k : ℕ) → octet (octets w 0) k ≡ 0
-unfolding octets
-octets-zero zero k = refl
-octets-zero (suc w) k =
-    rw (zero-div 256, zero-mod 256) (⊎-elim
-    (λ (h : k < w). List·getD-append (octets w 0) (0 ∷ []) 0 k (omega (arith, length-octets w 0)) ∙ octets-zero w k)
-    (λ (h : w ≤ k).
-    let e : length (octets w 0) + (k - w) ≡ k = omega (arith, length-octets w 0) in
-    ap (octet (octets w 0 ++ (0 ∷ []))) (sym e) ∙ getD-append-add (octets w 0) (0 ∷ []) (k - w) 0 ∙ alone (k - w))
-    (lt-or-le k w))
-  where
-    alone : (j : ℕ) → octet (0 ∷ []) j ≡ 0
-    alone zero = refl
-    alone (suc j) = refl
-
-lit-octet : {rs qs : List Slot} (i : ℕ) → Lit rs qs → apart rs ≡ true → octetOf rs 0 i ≡ octetOf qs 0 i
-lit-octet i done a = refl
-lit-octet i (lit {r = r} {rs = rs} {qs = qs} m) a = ⊎-elim
-    (λ (h : spans r i ≡ true). octetOf-spanned r rs 0 i h ∙ sym (octetOf-spanned r qs 0 i h))
-    (λ (h : spans r i ≡ false). octetOf-past r rs 0 i h ∙ lit-octet i m (apart-rest r rs a) ∙ sym (octetOf-past r qs 0 i h))
-    (true-or-false (spans r i))
-lit-octet i (unlit {r = r} {rs = rs} {qs = qs} e m) a =
-    let rest = lit-octet i m (apart-rest r rs a) in
-    ⊎-elim
-    (λ (h : spans r i ≡ true).
-    octetOf-spanned r rs 0 i h ∙ rw e (octets-zero (r .size) (i - r .start)) ∙ sym (octetOf-none r rs 0 i (apart-first r rs a) h) ∙ rest)
-    (λ (h : spans r i ≡ false). octetOf-past r rs 0 i h ∙ rest)
+-- Where a slot spans the place, what stood there before does not matter.
+octetOf-over : (rs : List Slot) (z y i : ℕ) → spanned rs i ≡ true → octetOf rs z i ≡ octetOf rs y i
+unfolding spanned
+octetOf-over [] z y i e = absurd (never-both e refl)
+octetOf-over (r ∷ rs) z y i e = ⊎-elim
+    (λ (h : spans r i ≡ true). octetOf-spanned r rs z i h ∙ sym (octetOf-spanned r rs y i h))
+    (λ (h : spans r i ≡ false). octetOf-past r rs z i h ∙ octetOf-over rs z y i (rw h at e) ∙ sym (octetOf-past r rs y i h))
     (true-or-false (spans r i))
 
-lit-ends : {rs qs : List Slot} (n : ℕ) → Lit rs qs → endsBy n rs ≡ true → endsBy n qs ≡ true
-lit-ends n done b = b
-lit-ends n (lit {r = r} {rs = rs} {qs = qs} m) b =
-    ends-cons n r qs (ends-first n r rs b) (lit-ends n m (ends-rest n r rs b))
-lit-ends n (unlit {r = r} {rs = rs} e m) b = lit-ends n m (ends-rest n r rs b)
+covers-all : (n : ℕ) (rs : List Slot) (i : ℕ) → covers n rs ≡ true → i < n → spanned rs i ≡ true
+unfolding covers
+covers-all zero rs i e h = absurd (omega arith)
+covers-all (suc n) rs i e h = ⊎-elim
+    (λ (l : i < n). covers-all n rs i (and-left (covers n rs) (spanned rs n) e) l)
+    (λ (l : n ≤ i). let f : i ≡ n = omega arith in rw f (and-right (covers n rs) (spanned rs n) e))
+    (lt-or-le i n)
 
-lit-apartFrom : {rs qs : List Slot} (p : Slot) → Lit rs qs → apartFrom p rs ≡ true → apartFrom p qs ≡ true
-lit-apartFrom p done a = a
-lit-apartFrom p (lit {r = r} {rs = rs} {qs = qs} m) a =
-    apart-cons p r qs (apart-head p r rs a) (lit-apartFrom p m (apart-tail p r rs a))
-lit-apartFrom p (unlit {r = r} {rs = rs} e m) a = lit-apartFrom p m (apart-tail p r rs a)
-
-lit-apart : {rs qs : List Slot} → Lit rs qs → apart rs ≡ true → apart qs ≡ true
-unfolding apart
-lit-apart done a = a
-lit-apart (lit {r = r} {rs = rs} {qs = qs} m) a =
-    both (apartFrom r qs) (apart qs) (lit-apartFrom r m (apart-first r rs a)) (lit-apart m (apart-rest r rs a))
-lit-apart (unlit {r = r} {rs = rs} e m) a = lit-apart m (apart-rest r rs a)
-
--- Where the first n octets are 0, writing the slots that hold something makes them the layout, and all behind stays.
-pub fill-layout : (n : ℕ) (rs qs : List Slot) (s : List ℕ) → Lit rs qs → apart rs ≡ true → endsBy n rs ≡ true → n ≤ length s
-    → ((i : ℕ) → i < n → octet s i ≡ 0) → fill qs s ≡ layout n rs ++ drop n s
-fill-layout n rs qs s m a b room clear = ext-getD 0 (fill qs s) (layout n rs ++ drop n s) same-length same-octet
+-- Writing slots that cover the first n places makes them the layout, and all behind stays.
+pub fill-layout : (n : ℕ) (rs : List Slot) (s : List ℕ) → apart rs ≡ true → endsBy n rs ≡ true → covers n rs ≡ true → n ≤ length s
+    → fill rs s ≡ layout n rs ++ drop n s
+fill-layout n rs s a b all room = ext-getD 0 (fill rs s) (layout n rs ++ drop n s) same-length same-octet
   where
-    same-length : length (fill qs s) ≡ length (layout n rs ++ drop n s)
-    same-length = length-fill qs s ∙ sym (length-append (layout n rs) (drop n s) ∙ omega (arith, length-layout n rs, length-drop n s))
+    same-length : length (fill rs s) ≡ length (layout n rs ++ drop n s)
+    same-length = length-fill rs s ∙ sym (length-append (layout n rs) (drop n s) ∙ omega (arith, length-layout n rs, length-drop n s))
 
-    short : endsBy (length s) qs ≡ true
-    short = ends-more n (length s) qs room (lit-ends n m b)
+    filled : (i : ℕ) → octet (fill rs s) i ≡ octetOf rs (octet s i) i
+    filled i = fill-octet rs s i a (ends-more n (length s) rs room b)
 
-    filled : (i : ℕ) → octet (fill qs s) i ≡ octetOf qs (octet s i) i
-    filled i = fill-octet qs s i (lit-apart m a) short
-
-    same-octet : (i : ℕ) → i < length (fill qs s) → octet (fill qs s) i ≡ octet (layout n rs ++ drop n s) i
+    same-octet : (i : ℕ) → i < length (fill rs s) → octet (fill rs s) i ≡ octet (layout n rs ++ drop n s) i
     same-octet i h = ⊎-elim
         (λ (l : i < n).
-        filled i ∙ ap (λ (z : ℕ). octetOf qs z i) (clear i l) ∙ sym (lit-octet i m a) ∙ sym (octet-layout n rs i l)
+        filled i ∙ octetOf-over rs (octet s i) 0 i (covers-all n rs i all l) ∙ sym (octet-layout n rs i l)
         ∙ sym (List·getD-append (layout n rs) (drop n s) 0 i (omega (arith, length-layout n rs))))
         (λ (l : n ≤ i).
         let e : length (layout n rs) + (i - n) ≡ i = omega (arith, length-layout n rs) in
         let f : n + (i - n) ≡ i = omega arith in
-        filled i ∙ octetOf-above n qs (octet s i) i (lit-ends n m b) l
+        filled i ∙ octetOf-above n rs (octet s i) i b l
         ∙ sym (ap (octet (layout n rs ++ drop n s)) (sym e) ∙ getD-append-add (layout n rs) (drop n s) (i - n) 0
         ∙ getD-drop n s (i - n) 0 ∙ ap (octet s) f))
         (lt-or-le i n)
@@ -353,14 +306,6 @@ octetOf-read {s} i o (more {r = r} {rs = rs} is rest) e = ⊎-elim
     ∙ octets-number (r .size) s (r .start) (i - r .start) o (omega arith) ∙ ap (octet s) f)
     (λ (h : spans r i ≡ false). octetOf-past r rs 0 i h ∙ octetOf-read i o rest (rw h at e))
     (true-or-false (spans r i))
-
-covers-all : (n : ℕ) (rs : List Slot) (i : ℕ) → covers n rs ≡ true → i < n → spanned rs i ≡ true
-unfolding covers
-covers-all zero rs i e h = absurd (omega arith)
-covers-all (suc n) rs i e h = ⊎-elim
-    (λ (l : i < n). covers-all n rs i (and-left (covers n rs) (spanned rs n) e) l)
-    (λ (l : n ≤ i). let f : i ≡ n = omega arith in rw f (and-right (covers n rs) (spanned rs n) e))
-    (lt-or-le i n)
 
 pub layout-read : (n : ℕ) (rs : List Slot) (s : List ℕ) → Octets s → n ≤ length s → Read s rs → covers n rs ≡ true → take n s ≡ layout n rs
 layout-read n rs s o room is all = ext-getD 0 (take n s) (layout n rs) (long ∙ sym (length-layout n rs)) same

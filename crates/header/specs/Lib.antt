@@ -7,3 +7,4 @@ pub mod Head
 pub mod HeadLaws
 pub mod Printed
 pub mod PrintedLaws
+pub mod private

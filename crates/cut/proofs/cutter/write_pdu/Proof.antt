@@ -20,26 +20,26 @@ sub-own c = omega (arith, bsize-is _ _ _ (c .before .before .before .before .pre
 write-head-requires : tie.Need-write-head-requires
 write-head-requires c κs = search needs
 
-add-lay : tie.Need-add-lay
-add-lay c =
+add-lay-once : tie.Need-add-lay-once
+add-lay-once c =
     let start = c .before .before .before .before .before .before in
     let entry = start .before .before .before in
     omega (arith, start .piece-place .ensures, bsize-is _ _ _ (entry .pre .1), within-end _ _ _ (cuts-within _ _ _ _ _ (entry .pre .0)))
 
-sub-lay : tie.Need-sub-lay
-sub-lay c = search needs
+sub-lay-once : tie.Need-sub-lay-once
+sub-lay-once c = search needs
 
-part-lay-start : tie.Need-part-lay-start
-part-lay-start c = search needs
+part-lay-once-start : tie.Need-part-lay-once-start
+part-lay-once-start c = search needs
 
-part-lay-end : tie.Need-part-lay-end
-part-lay-end c =
+part-lay-once-end : tie.Need-part-lay-once-end
+part-lay-once-end c =
     let start = c .before .before .before .before .before .before in
     let entry = start .before .before .before in
     omega (arith, start .piece-place .ensures, bsize-is _ _ _ (entry .pre .1), within-end _ _ _ (cuts-within _ _ _ _ _ (entry .pre .0)))
 
-lay-requires : tie.Need-lay-requires
-lay-requires c κs = search needs
+lay-once-requires : tie.Need-lay-once-requires
+lay-once-requires c κs = search needs
 
 same-length : tie.Need-same-length
 same-length c = search needs
@@ -53,7 +53,7 @@ returns c =
     let a = entry .args in
     let yes = entry .pre .0 in
     pdu-written (a .given) (now (a .message)) (a .u) (a .piece) (now (a .buffer)) (cuts-within _ _ _ _ _ yes) (cuts-room _ _ _ _ _ yes) _ _
-    (start .piece-place .ensures) (omega (arith, bsize-is _ _ _ (entry .pre .1))) (headed .write-head .ensures ∙ rw (entry .pre .1)) (laid .lay .ensures)
+    (start .piece-place .ensures) (omega (arith, bsize-is _ _ _ (entry .pre .1))) (headed .write-head .ensures ∙ rw (entry .pre .1)) (laid .lay-once .ensures)
 
 pub write-pdu-spec : {M : Type 1} → statement M
 write-pdu-spec =
@@ -63,10 +63,10 @@ write-pdu-spec =
     cast-own
     sub-own
     write-head-requires
-    add-lay
-    sub-lay
-    part-lay-start
-    part-lay-end
-    lay-requires
+    add-lay-once
+    sub-lay-once
+    part-lay-once-start
+    part-lay-once-end
+    lay-once-requires
     same-length
     returns)
