@@ -1,4 +1,6 @@
 pub mod Answer
+pub mod FirstPlace
+pub mod FirstPlaceLaws
 pub mod Number
 pub mod NumberLaws
 pub mod Run

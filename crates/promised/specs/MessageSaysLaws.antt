@@ -9,6 +9,7 @@ use lib.Count.{ones}
 use lib.Dec.{eqb}
 use lib.ListN.{length}
 use borrow.Author.Tests.{eq-eqb, ne-eqb, leb-false, not-false}
+use Rattle.octets.specs.FirstPlaceLaws.{place-holds}
 use Rattle.octets.specs.Split.{eq-or-ne, true-or-false, and-right}
 use Rattle.ring.specs.declared.Verdict.{Verdict}
 use Rattle.ring.specs.Check.{check, isRepeat}
@@ -52,7 +53,7 @@ use Rattle.promised.specs.Log.{Exchange, timeOf, Name, noName, nameOf, d
 use Rattle.promised.specs.LogLaws.{Tells, open-kin, newer-same, rejoins-same, fills-count, held-with}
 use Rattle.promised.specs.SafeLaws.{from-accepted, joined-part}
 use Rattle.promised.specs.Says.{sendersOf, placeOf, differs, hasPiece, octetsOf, laterRows, rowsFor, droppedName, liesIn, verdictAfter, messageSays}
-use Rattle.promised.specs.SaysLaws.{place-is, place-holds, accepted-setup, held-is}
+use Rattle.promised.specs.SaysLaws.{place-is, accepted-setup, held-is}
 use Rattle.promised.specs.View.{View, view, numberOf}
 use Rattle.promised.specs.ViewLaws.{rows-joining, map-joining, fills-joining, Registered, registered-number}
 

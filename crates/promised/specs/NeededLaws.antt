@@ -10,6 +10,7 @@ use native.Mathlib.Omega.{arith}
 use lib.Dec.{eqb}
 use lib.ListN.{length, getD, length-replicate}
 use borrow.Author.Tests.{eq-eqb}
+use Rattle.octets.specs.FirstPlace.{firstPlace}
 use Rattle.octets.specs.Number.{number, octets}
 use Rattle.octets.specs.Run.{run}
 use Rattle.ring.specs.declared.Verdict.{Verdict}
@@ -39,7 +40,7 @@ use Rattle.promised.specs.Judged.{inOrder, isFrom}
 use Rattle.promised.specs.Log.{ToldOf, toldBy, Exchange, exchange, logged, calls, timeOf, deliveries, lastOf, sameMessage, openOf, stampOf}
 use Rattle.promised.specs.Needed.{Example, sent, packet, start, before, log, answersSince, verdict, finds, outcome, part, Promise, Condition, registered, length-within, unit-within, version-not-0, unheard, no-repeat, none-newer, admits, only-pieces, kept, NoneAsked, Fulfilled, Met, Needed, example, tested, cameRound, without, turned}
 use Rattle.promised.specs.PastSaysLaws.{says-is, agrees-after, log-is}
-use Rattle.promised.specs.Says.{sendersOf, firstPlace, newerIsOpen, hasPiece, octetsOf, messageSays, mapOf, clockSays, says, logOf}
+use Rattle.promised.specs.Says.{sendersOf, newerIsOpen, hasPiece, octetsOf, messageSays, mapOf, clockSays, says, logOf}
 
 -- ---- decisions that compute
 

@@ -5,6 +5,7 @@ use mathlib.Core.Bool.{Bool, true, false, not, cond, _&&_, _||_}
 use mathlib.Core.List.{List, [], _∷_}
 use lib.Dec.{eqb, leb, ltb}
 use lib.ListN.{length, take}
+use Rattle.octets.specs.FirstPlace.{firstPlace}
 use Rattle.ring.specs.declared.Verdict.{Verdict}
 use Rattle.ring.specs.Check.{check, isRepeat}
 use Rattle.ring.specs.Ring.{newer}
@@ -28,11 +29,6 @@ use Rattle.promised.specs.Log.{ToldOf, Exchange, exchange, Name, noName,
 -- "1 to 16 senders"; none where setup is refused: "An empty state, with no senders, is what a refused setup returns".
 unfoldable pub sendersOf : Setup → List Address
 sendersOf q = cond (setupWithin q) (take (q .count) (q .senders)) []
-
--- The first of the first k places at which something holds; k where it holds at none.
-unfoldable pub firstPlace : (ℕ → Bool) → ℕ → ℕ
-firstPlace f zero = 0
-firstPlace f (suc k) = cond (ltb (firstPlace f k) k) (firstPlace f k) (cond (f k) k (suc k))
 
 -- Where a sender stands in the table.
 abbrev pub placeOf : List Address → Address → ℕ

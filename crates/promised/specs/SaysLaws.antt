@@ -8,6 +8,8 @@ use native.Mathlib.Omega.{arith}
 use lib.Dec.{eqb, ltb}
 use lib.ListN.{length, getD}
 use borrow.Author.Tests.{eqb-true, eq-eqb, le-ltb, lt-ltb, ltb-true, ltb-false, not-true, not-false}
+use Rattle.octets.specs.FirstPlace.{firstPlace}
+use Rattle.octets.specs.FirstPlaceLaws.{place-holds, place-before}
 use Rattle.octets.specs.Split.{eq-or-ne, lt-or-le, true-or-false, never-both, same-test, or-left, or-right, either}
 use Rattle.header.specs.Head.{headOf}
 use Rattle.map.specs.Map.{bit, holds}
@@ -38,7 +40,7 @@ use Rattle.promised.specs.Join.{numberIn}
 use Rattle.promised.specs.JoinLaws.{kinIn, Fine}
 use Rattle.promised.specs.Log.{Exchange, timeOf, openOf, isOpen, lifeOf}
 use Rattle.promised.specs.LogLaws.{open-pieces}
-use Rattle.promised.specs.Says.{sendersOf, firstPlace, placeOf, aliveSays, mapOf, isDropped, isOld, clockSays, hasPiece, piecesIn, questionSays, heldSays}
+use Rattle.promised.specs.Says.{sendersOf, placeOf, aliveSays, mapOf, isDropped, isOld, clockSays, hasPiece, piecesIn, questionSays, heldSays}
 use Rattle.promised.specs.View.{view}
 
 -- ---- places
@@ -53,30 +55,6 @@ pub map-same : (f : Sender → Bool) (l : List Sender) (g : ℕ → Bool) (k : �
 unfolding mapWhere mapOf
 map-same f l g zero same = refl
 map-same f l g (suc k) same = rw (map-same f l g k (λ j less. same j (omega arith)), same k (omega arith))
-
--- It holds at the first place, and at none before.
-pub place-holds : (g : ℕ → Bool) (k : ℕ) → firstPlace g k < k → g (firstPlace g k) ≡ true
-unfolding firstPlace
-place-holds g zero less = absurd (omega arith)
-place-holds g (suc k) less = by (firstPlace g k) (ltb (firstPlace g k) k) refl (g k) refl (place-holds g k) less
-  where
-    by : (i : ℕ) (b : Bool) → ltb i k ≡ b → (c : Bool) → g k ≡ c → (i < k → g i ≡ true) → cond b i (cond c k (suc k)) < suc k → g (cond b i (cond c k (suc k))) ≡ true
-    by i true e c f earlier less = earlier (ltb-true i k e)
-    by i false e true f earlier less = f
-    by i false e false f earlier less = absurd (omega arith)
-
-place-before : (g : ℕ → Bool) (k j : ℕ) → j < firstPlace g k → j < k → g j ≡ false
-unfolding firstPlace
-place-before g zero j less below = absurd (omega arith)
-place-before g (suc k) j less below = by (firstPlace g k) (ltb (firstPlace g k) k) refl (g k) refl (place-before g k j) less
-  where
-    by : (i : ℕ) (b : Bool) → ltb i k ≡ b → (c : Bool) → g k ≡ c → (j < i → j < k → g j ≡ false) → j < cond b i (cond c k (suc k)) → g j ≡ false
-    by i true e c f earlier less = earlier less (omega (arith, ltb-true i k e))
-    by i false e true f earlier less = earlier (omega (arith, ltb-false i k e)) less
-    by i false e false f earlier less = ⊎-elim
-        (λ (z : j ≡ k). ap g z ∙ f)
-        (λ (z : j ≢ k). earlier (omega (arith, ltb-false i k e)) (omega (arith, z)))
-        (eq-or-ne j k)
 
 -- ---- the pieces of the open message
 
