@@ -8,6 +8,7 @@ use Rattle.ring.specs.Check.{verdictNumber, verdictSkipped}
 use Rattle.answers.specs.declared.Answer.{Answer}
 use Rattle.answers.specs.declared.Call.{Call}
 use Rattle.answers.specs.declared.Call.the-variants as call
+use Rattle.answers.specs.declared.GroupAnswer.{GroupAnswer}
 use Rattle.answers.specs.declared.Missing.{Missing}
 use Rattle.answers.specs.declared.Missing.the-variants as missing
 use Rattle.answers.specs.declared.Outcome.{Outcome}
@@ -113,6 +114,19 @@ messageRefused k = record {
   droppedNumber = 0;
   lies = nothingHanded;
 }
+
+-- ---- the multicast call: "by the definition that gives the peer-to-peer answer's numbers and values"
+
+pub record GroupTold : Type 0 where
+  pub outcome : OutcomeTold
+  pub lies : WhereTold
+
+abbrev pub groupTold : GroupAnswer → GroupTold
+groupTold a = record { outcome = outcomeTold (a .outcome); lies = whereTold (a .lies) }
+
+-- "nothing more"
+abbrev pub groupRefused : ℕ → GroupTold
+groupRefused k = record { outcome = notDelivered k; lies = nothingHanded }
 
 -- ---- setup and the alive call: "S answer", "A answer"
 

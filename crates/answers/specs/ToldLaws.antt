@@ -13,13 +13,14 @@ use Rattle.state.specs.declared.Receiver.{Receiver}
 use Rattle.answers.specs.declared.Answer.{Answer}
 use Rattle.answers.specs.declared.Call.{Call}
 use Rattle.answers.specs.declared.Call.the-variants as call
+use Rattle.answers.specs.declared.GroupAnswer.{GroupAnswer}
 use Rattle.answers.specs.declared.Missing.{Missing}
 use Rattle.answers.specs.declared.Missing.the-variants as missing
 use Rattle.answers.specs.declared.Outcome.{Outcome}
 use Rattle.answers.specs.declared.Outcome.the-variants as outcome
 use Rattle.answers.specs.declared.Where.{Where}
 use Rattle.answers.specs.declared.Where.the-variants as lies
-use Rattle.answers.specs.Told.{RefusedAs, OutcomeTold, outcomeTold, WhereTold, whereTold, MessageTold, messageTold, callNumber, QuestionTold, questionTold, OutcomeTells, CallTells, MissingTells}
+use Rattle.answers.specs.Told.{RefusedAs, OutcomeTold, outcomeTold, WhereTold, whereTold, MessageTold, messageTold, GroupTold, groupTold, callNumber, QuestionTold, questionTold, OutcomeTells, CallTells, MissingTells}
 
 -- ---- a refusal's number is told by no other case
 
@@ -99,6 +100,18 @@ answer-back a t = rw (outcome-back (a .outcome) t, where-back (a .lies))
 -- With the state, all of it is told.
 pub one-answer : (a b : Answer) → OutcomeTells (a .outcome) → OutcomeTells (b .outcome) → messageTold a ≡ messageTold b → a .state ≡ b .state → a ≡ b
 one-answer a b s t e f = sym (answer-back a s) ∙ rw (e, f) (answer-back b t)
+
+-- ---- the multicast call's answer, read back
+
+groupFrom : GroupTold → GroupAnswer
+groupFrom t = record { outcome = outcomeFrom (t .outcome); lies = whereFrom (t .lies) }
+
+group-back : (a : GroupAnswer) → OutcomeTells (a .outcome) → groupFrom (groupTold a) ≡ a
+unfolding groupFrom
+group-back a t = rw (outcome-back (a .outcome) t, where-back (a .lies))
+
+pub one-group : (a b : GroupAnswer) → OutcomeTells (a .outcome) → OutcomeTells (b .outcome) → groupTold a ≡ groupTold b → a ≡ b
+one-group a b s t e = sym (group-back a s) ∙ ap groupFrom e ∙ group-back b t
 
 -- ---- the other calls
 

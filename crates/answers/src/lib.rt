@@ -2,6 +2,7 @@
 // them for each case.
 ghost use mathlib.Core.Path.{_≡_};
 ghost use Rattle.answers.specs.Told.{outcomeTold, refusedNumber, callNumber, questionTold};
+use groups::Groups;
 use ring::Number;
 use ring::Verdict;
 use ring::Version;
@@ -102,7 +103,24 @@ pub struct Answer {
     pub state: Receiver,
 }
 
-// What setup takes. Places of the table past the count are not looked at.
+// What the multicast call answers: it leaves the state as it is.
+pub struct GroupAnswer {
+    pub outcome: Outcome,
+    pub lies: Where,
+}
+
+// What of a state the multicast call looks at: whether it is within its limits, its settings, and at which place the
+// packet's sender stands.
+pub struct Listener {
+    pub valid: bool,
+    pub test: bool,
+    pub n1: u16,
+    pub count: u8,
+    pub at: u8,
+    pub groups: Groups,
+}
+
+// What setup takes. Places of the tables past their counts are not looked at.
 #[repr(C)]
 pub struct Setup {
     pub mode: u8,
@@ -110,6 +128,7 @@ pub struct Setup {
     pub t: u32,
     pub count: u8,
     pub senders: [Address; Receiver::PLACES],
+    pub groups: Groups,
 }
 
 // What became of a call that takes no message.

@@ -3,6 +3,7 @@
 use Prim.Native.Nat.{ℕ, zero, suc, _+_, _*_, _%_, _^_}
 use mathlib.Core.List.{List, [], _∷_}
 use lib.ListN.{length, take, drop, set, replicate}
+use Rattle.groups.specs.Groups.{noGroups}
 use Rattle.state.specs.declared.Address.{Address}
 use Rattle.state.specs.State.{sendersMost, noAddress}
 use Rattle.answers.specs.declared.Answer.{Answer}
@@ -26,7 +27,7 @@ nodesTo (suc k) = set (nodesTo k) k (nodeOf (suc k))
 
 -- A node whose senders are the nodes 1 to `count` of data field 1.
 abbrev pub boardOf : ℕ → ℕ → ℕ → ℕ → Setup
-boardOf mode n1 t count = record { mode = mode; n1 = n1; t = t; count = count; senders = nodesTo sendersMost }
+boardOf mode n1 t count = record { mode = mode; n1 = n1; t = t; count = count; senders = nodesTo sendersMost; groups = noGroups }
 
 unfoldable pub begun : Setup → List ℕ → World
 begun q storage = record { state = setupAnswer q .state; storage = storage }

@@ -18,6 +18,7 @@ use answers::Setup;
 use answers::Where;
 use cut::cutter::Cutting;
 use cut::cutter::cutter;
+use groups::Groups;
 use header::Cut;
 use header::Given;
 use header::Head;
@@ -135,6 +136,7 @@ fn board(mode: u8, n1: u16, t: u32, count: u8) -> Setup
         t,
         count,
         senders,
+        groups: Groups::NONE,
     }
 }
 

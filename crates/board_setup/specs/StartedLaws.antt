@@ -13,28 +13,30 @@ use lib.Seq.{sets-eq, take-at, drop-at, drop-drop, drop-append-add}
 use Rattle.octets.specs.Run.{laid}
 use Rattle.octets.specs.RunLaws.{laid-fits}
 use Rattle.octets.specs.Split.{lt-or-le, cond-case, and-left, and-right}
-use Rattle.header.specs.Codes.{within, isDataField, isNode}
+use Rattle.header.specs.Codes.{isDataField, isNode}
 use Rattle.state.specs.declared.Address.{Address}
 use Rattle.state.specs.declared.Receiver.{Receiver}
 use Rattle.state.specs.declared.Sender.{Sender}
 use Rattle.state.specs.Key.{Narrow}
-use Rattle.state.specs.Limits.{isN1, isDropTime, isAddress, newAmong, given, addressesWithin}
+use Rattle.state.specs.Limits.{isAddress, newAmong, given, addressesWithin}
 use Rattle.state.specs.State.{sendersMost, noAddress, noSender, newSender, senderAt, emptyReceiver}
 use Rattle.state.specs.WithinLaws.{set-place}
 use Rattle.answers.specs.declared.Setup.{Setup}
 use Rattle.answers.specs.declared.Started.{Started}
 use Rattle.rules.specs.calls.Setup.{setupWithin, newSenders, setupState, setupAnswer}
+use Rattle.rules.specs.calls.SetupLaws.{setup-facts}
 use Rattle.words.specs.declared.Record.{Record}
 use Rattle.words.specs.Words.{before, each, place, wordsMost, recordIn, recordWords, recordAt, flagWord, senderOf, recordOf, fits, sendersIn, stateIn, fitTo, isState, senderWords, settingsWords, front, wordsOf}
+use Rattle.words.specs.GroupsLaws.{Octets, none-octets, kept-octets, groups-there}
 use Rattle.words.specs.WordsLaws.{address-back, record-there}
 use Rattle.words.specs.ListedLaws.{listed-same}
 use Rattle.words.specs.StateLaws.{state-of}
 use Rattle.words.specs.ChangedLaws.{flag-there}
 
 -- The settings.
-pub settings-set : (l : List ℕ) (a b c d e : ℕ) → length l ≡ wordsMost
-    → set (set (set (set (set l 0 a) 1 b) 2 c) 3 d) 4 e ≡ (a ∷ b ∷ c ∷ d ∷ e ∷ []) ++ drop before l
-settings-set l a b c d e many = sets-eq (a ∷ b ∷ c ∷ d ∷ e ∷ []) l 0 (omega arith)
+pub settings-set : (l : List ℕ) (a b c d e f g : ℕ) → length l ≡ wordsMost
+    → set (set (set (set (set (set (set l 0 a) 1 b) 2 c) 3 d) 4 e) 5 f) 6 g ≡ (a ∷ b ∷ c ∷ d ∷ e ∷ f ∷ g ∷ []) ++ drop before l
+settings-set l a b c d e f g many = sets-eq (a ∷ b ∷ c ∷ d ∷ e ∷ f ∷ g ∷ []) l 0 (omega arith)
 
 length-senders : (w : Receiver) (k : ℕ) → length (senderWords (senderAt w) k) ≡ k * each
 unfolding senderWords
@@ -141,7 +143,8 @@ unfolding fits
 new-back s n = rw (n .2) (ap newSender (address-back (n .0) (n .1)), refl)
 
 -- What setup gives.
-module _ (w : Receiver) (places : length (w .senders) ≡ sendersMost) (few : w .count ≤ sendersMost) (new : (j : ℕ) → j < sendersMost → New (senderAt w j)) where
+module _ (w : Receiver) (places : length (w .senders) ≡ sendersMost) (few : w .count ≤ sendersMost) (octets : Octets (w .groups))
+    (new : (j : ℕ) → j < sendersMost → New (senderAt w j)) where
   senders-back : sendersIn (wordsOf w) ≡ w .senders
   unfolding sendersIn
   senders-back = listed-same noSender (λ i. senderOf (recordAt (wordsOf w) i)) sendersMost (w .senders) places
@@ -165,19 +168,18 @@ module _ (w : Receiver) (places : length (w .senders) ≡ sendersMost) (few : w 
       flag-few false = omega arith
 
   words-mean : stateIn (wordsOf w) ≡ w
-  words-mean = rw (senders-back, flag-there (w .test))
+  words-mean = rw (senders-back, flag-there (w .test), groups-there (w .groups) octets)
 
 -- The words that setup leaves are the state that it gives.
 pub setup-means : (q : Setup) → (isState (wordsOf (setupAnswer q .state)) ≡ true) × (stateIn (wordsOf (setupAnswer q .state)) ≡ setupAnswer q .state)
-unfolding setupAnswer setupState setupWithin
+unfolding setupAnswer setupState
 setup-means q = cond-case (λ (a : Started). (isState (wordsOf (a .state)) ≡ true) × (stateIn (wordsOf (a .state)) ≡ a .state)) (setupWithin q) _ _
     (λ e.
-    let a1 = leb (q .mode) 1 && isN1 (q .n1) && isDropTime (q .t) in
-    let a2 = within 1 sendersMost (q .count) in
-    let front-ok = and-left (a1 && a2) (addressesWithin (q .senders) (q .count)) e in
-    let few = leb-true (q .count) sendersMost (and-right (leb 1 (q .count)) (leb (q .count) sendersMost) (and-right a1 a2 front-ok)) in
-    let new = new-each (q .senders) (q .count) (narrow-each (q .senders) (q .count) (and-right (a1 && a2) (addressesWithin (q .senders) (q .count)) e)) in
-    (words-state (setupState q) (new-length (q .senders) (q .count)) few new, words-mean (setupState q) (new-length (q .senders) (q .count)) few new))
+    let facts = setup-facts q e in
+    let long = new-length (q .senders) (q .count) in
+    let new = new-each (q .senders) (q .count) (narrow-each (q .senders) (q .count) (facts .addresses)) in
+    let octets = kept-octets (q .groups) (facts .groups) in
+    (words-state (setupState q) long (facts .count) octets new, words-mean (setupState q) long (facts .count) octets new))
     (λ _.
     let new : (j : ℕ) → j < sendersMost → New (senderAt emptyReceiver j) = λ j h. rw (getD-replicate sendersMost j noSender noSender h) none-new in
-    (words-state emptyReceiver refl (omega arith) new, words-mean emptyReceiver refl (omega arith) new))
+    (words-state emptyReceiver refl (omega arith) none-octets new, words-mean emptyReceiver refl (omega arith) none-octets new))

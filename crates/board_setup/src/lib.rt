@@ -7,6 +7,7 @@ ghost use Rattle.board.specs.Calls.{setupFor, setupWords};
 use answers::Setup;
 use state::Receiver;
 use words::Record;
+use words::groups_word;
 use words::places;
 
 // Words past the senders are written 0. Other than as many words as a state has are outside setup's limits, and stay.
@@ -48,4 +49,7 @@ fn write_settings(words: &mut [u64], state: Receiver)
     words[places::T] = state.t as u64;
     words[places::CLOCK] = state.clock;
     words[places::COUNT] = state.count as u64;
+    let groups = state.groups;
+    words[places::GROUP_COUNT] = groups.count as u64;
+    words[places::GROUPS] = groups_word(groups);
 }

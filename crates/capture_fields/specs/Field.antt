@@ -6,6 +6,7 @@ use lib.Dec.{eqb, ltb}
 use lib.ListN.{length, set, replicate}
 use Rattle.octets.specs.Number.{number}
 use Rattle.octets.specs.Run.{run}
+use Rattle.groups.specs.Groups.{noGroups}
 use Rattle.state.specs.declared.Address.{Address}
 use Rattle.answers.specs.declared.Setup.{Setup}
 use Rattle.state.specs.State.{sendersMost, noAddress}
@@ -60,7 +61,8 @@ addressIn s at = record { field = record { 0 = number 1 s at }; node = record { 
 unfoldable pub sendersOf : ℕ → ℕ
 sendersOf n = cond (eqb n 10) 1 (cond (eqb n 13) 2 (cond (eqb n 16) 3 (cond (eqb n 19) 4 0)))
 
--- "mode (1 octet …), N1 (2), T (4), then …". Places past the senders are not looked at.
+-- "mode (1 octet …), N1 (2), T (4), then …". Places past the senders are not looked at. 02, Item 5: "0 to 8 registered groups
+-- (0 in the program)".
 unfoldable pub setupOf : List ℕ → Setup
 setupOf s = record {
   mode = number 1 s 0;
@@ -68,6 +70,7 @@ setupOf s = record {
   t = number 4 s 3;
   count = sendersOf (length s);
   senders = set (set (set (set (replicate sendersMost noAddress) 0 (addressIn s 7)) 1 (addressIn s 10)) 2 (addressIn s 13)) 3 (addressIn s 16);
+  groups = noGroups;
 }
 
 -- "3 clock (8 octets)"

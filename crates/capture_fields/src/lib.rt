@@ -5,6 +5,7 @@ ghost use mathlib.Core.Path.{_≡_};
 ghost use Prim.Native.Nat.{_≤_};
 ghost use Rattle.capture_fields.specs.Field.{kindOf, isBad, nextOf, contentsOf, setupOf, addressIn, sendersOf, clockOf};
 use answers::Setup;
+use groups::Groups;
 use header::codes::DataField;
 use header::codes::Node;
 use octets::read1;
@@ -111,6 +112,7 @@ pub fn setup_of(contents: &[u8]) -> Setup
         t: read4(contents, 3),
         count: senders_of(contents.len()),
         senders,
+        groups: Groups::NONE,
     }
 }
 

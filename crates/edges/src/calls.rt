@@ -18,6 +18,8 @@ use edges_lines::calls::message_line;
 use edges_lines::record::state_lines;
 use edges_lines::sum;
 use edges_lines::title;
+use groups::Group;
+use groups::Groups;
 use header::codes::DataField;
 use header::codes::Node;
 use octets::from;
@@ -96,12 +98,32 @@ fn fill(storage: &mut [u8]) {
 
 fn setup_in(contents: &[u8]) -> Setup {
     let senders = addresses(contents);
+    let groups = groups_in(contents, 56);
     Setup {
         mode: read1(contents, 0),
         n1: read2(contents, 1),
         t: read4(contents, 3),
         count: read1(contents, 7),
         senders,
+        groups,
+    }
+}
+
+// How many groups there are, and all eight places.
+pub(crate) fn groups_in(contents: &[u8], at: usize) -> Groups {
+    let numbers = from(contents, at);
+    Groups {
+        count: read1(numbers, 0),
+        list: [
+            Group(read1(numbers, 1)),
+            Group(read1(numbers, 2)),
+            Group(read1(numbers, 3)),
+            Group(read1(numbers, 4)),
+            Group(read1(numbers, 5)),
+            Group(read1(numbers, 6)),
+            Group(read1(numbers, 7)),
+            Group(read1(numbers, 8)),
+        ],
     }
 }
 

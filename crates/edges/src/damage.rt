@@ -2,6 +2,7 @@
 ghost use Prim.Native.Nat.{_<_};
 ghost use Rattle.state.specs.State.{sendersMost};
 use crate::calls::address;
+use crate::calls::groups_in;
 use octets::read1;
 use octets::read2;
 use octets::read4;
@@ -20,6 +21,8 @@ pub(crate) fn with_settings(mut w: Receiver, contents: &[u8]) -> Receiver {
     w.t = read4(contents, 3);
     w.clock = read8(contents, 7);
     w.count = read1(contents, 15);
+    let groups = groups_in(contents, 16);
+    w.groups = groups;
     w
 }
 

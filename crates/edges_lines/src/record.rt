@@ -1,9 +1,11 @@
 // The lines of a state: its settings, and each of its senders in table order.
 use crate::line;
+use groups::Groups;
 use state::Receiver;
 use state::Sender;
 
 pub fn state_lines(w: Receiver) {
+    let g = w.groups;
     line(
         b'W',
         &[
@@ -12,9 +14,23 @@ pub fn state_lines(w: Receiver) {
             w.t as u64,
             w.clock,
             w.count as u64,
+            g.count as u64,
+            group_at(g, 0),
+            group_at(g, 1),
+            group_at(g, 2),
+            group_at(g, 3),
+            group_at(g, 4),
+            group_at(g, 5),
+            group_at(g, 6),
+            group_at(g, 7),
         ],
     );
     sender_lines(w);
+}
+
+fn group_at(groups: Groups, place: u8) -> u64 {
+    let group = groups.at(place);
+    group.0 as u64
 }
 
 fn sender_lines(w: Receiver) {

@@ -16,6 +16,7 @@ use Rattle.header.specs.Codes.{within}
 use Rattle.header.specs.declared.Given.{Given}
 use Rattle.header.specs.Head.{headOf}
 use Rattle.cut.specs.Cutter.{pdu}
+use Rattle.groups.specs.Groups.{noGroups}
 use Rattle.state.specs.declared.Address.{Address}
 use Rattle.state.specs.Limits.{given}
 use Rattle.answers.specs.declared.Setup.{Setup}
@@ -145,7 +146,7 @@ address node = record { field = record { 0 = 1 }; node = record { 0 = node } }
 -- "setup online, N1 16, T 15000, sender field 1 node 7", as in 01's listing, and node 8 besides: node 7 stands at place
 -- 0 of the table, node 8 at place 1. Mode: "0 online, 1 test".
 abbrev pub setupIn : (mode : ℕ) → Setup
-setupIn mode = record { mode = mode; n1 = 16; t = 15000; count = 2; senders = address 7 ∷ address 8 ∷ [] }
+setupIn mode = record { mode = mode; n1 = 16; t = 15000; count = 2; senders = address 7 ∷ address 8 ∷ []; groups = noGroups }
 
 abbrev pub online : Setup
 online = setupIn 0

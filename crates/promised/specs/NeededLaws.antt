@@ -24,6 +24,7 @@ use Rattle.cut.specs.Cutter.{pdu}
 use Rattle.cut.specs.Pieces.{pieces, pieceLength, piece, joined}
 use Rattle.cut.specs.Possible.{unit, frontPossible, lastPossible, severalPossible, possible}
 use Rattle.map.specs.Map.{bit}
+use Rattle.groups.specs.Groups.{eachGroup, groupsWithin}
 use Rattle.state.specs.declared.Address.{Address}
 use Rattle.state.specs.Limits.{newAmong, given, addressesWithin}
 use Rattle.answers.specs.declared.Setup.{Setup}
@@ -229,7 +230,7 @@ unfolding
     dec-brought dec-each dec-other dec-at dec-allowed dec-kept decide failing conditions promise computedWith Dec·and Dec·not
     example tested cameRound without turned
     run number octets check rule4 remainder newer layout tabulate octetOf codeOf header headOf isFixed pdu pieces pieceLength piece joined
-    unit frontPossible lastPossible severalPossible possible bit newAmong addressesWithin setupWithin first inOrder isFrom
+    unit frontPossible lastPossible severalPossible possible bit newAmong addressesWithin eachGroup groupsWithin setupWithin first inOrder isFrom
     timeOf deliveries lastOf openOf stampOf sendersOf firstPlace hasPiece octetsOf messageSays mapOf clockSays says logOf
 computed e = computedWith e (pastLog e) (past-is e)
 

@@ -91,7 +91,7 @@ pub fn packet_number(valid: bool, count: u8, at: u8, room: usize, packet: &[u8],
 }
 
 // The fixed fields, PRI, MODE, the code and SEQ.
-fn head_within(packet: &[u8], h: Head) -> bool
+pub fn head_within(packet: &[u8], h: Head) -> bool
     ensures { λ r. ⌜ r ≡ headWithin (now (packet .entry)) h ⌝ }
 {
     let given = h.given;

@@ -10,6 +10,8 @@ pub mod Part
 pub mod Alive
 pub mod Clock
 pub mod Question
+-- Messages to a group.
+pub mod Multicast
 -- What no call looks at.
 pub mod Alike
 -- Proved of them.
@@ -20,6 +22,7 @@ pub mod MessageLaws
 pub mod AliveLaws
 pub mod ClockLaws
 pub mod QuestionLaws
+pub mod MulticastLaws
 -- Each number exactly when its row applies first; a refusal changes nothing.
 pub mod ExactlyLaws
 -- What a piece changes, and nothing of another sender.

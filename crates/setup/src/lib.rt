@@ -33,9 +33,11 @@ fn setup_within(q: Setup) -> bool
     ensures { λ r. ⌜ r ≡ setupWithin q ⌝ }
 {
     let senders = q.senders;
+    let groups = q.groups;
     (q.mode <= 1)
         & ((1 <= q.n1) & (q.n1 <= Receiver::N1_MOST))
         & ((1 <= q.t) & (q.t <= Receiver::DROP_TIME_MOST))
+        & groups.within()
         & ((1 <= q.count) & (q.count as usize <= Receiver::PLACES))
         & Address::all_within(senders, q.count)
 }
@@ -52,6 +54,9 @@ fn settled(q: Setup, within: bool) -> Receiver
     state.n1 = q.n1;
     state.t = q.t;
     state.count = q.count;
+    let groups = q.groups;
+    let kept = groups.kept();
+    state.groups = kept;
     state
 }
 

@@ -11,6 +11,8 @@ use Rattle.ring.specs.Ring.{M, isNumber}
 use Rattle.header.specs.Codes.{within, isDataField, isNode, isUser}
 use Rattle.cut.specs.Possible.{severalPossible}
 use Rattle.map.specs.Map.{isEmpty, isFull, markedPast}
+use Rattle.groups.specs.declared.Groups.{Groups}
+use Rattle.groups.specs.Groups.{groupsWithin}
 use Rattle.state.specs.declared.Last.{Last}
 use Rattle.state.specs.declared.Message.{Message}
 use Rattle.state.specs.declared.Address.{Address}
@@ -78,13 +80,15 @@ sendersWithin clock l zero = true
 sendersWithin clock l (suc k) =
     sendersWithin clock l k && (senderWithin clock (getD l k noSender) && newAmong (addressAt l) k (addressAt l k))
 
--- "An empty state … 9 lets it pass": of the states without senders only that one, at any time.
-unfoldable pub settingsOf : Bool → ℕ → ℕ → ℕ → ℕ → Bool
-settingsOf test n1 t clock count =
-    leb clock clockMost && leb count sendersMost && isN1 n1 && isDropTime t && (ltb 0 count || (not test && eqb n1 1 && eqb t 1))
+-- "An empty state … 9 lets it pass": of the states without senders only that one, at any time. 02, Item 5: groups "outside
+-- these limits or named twice" are 9 in a state, as they are 10 in setup.
+unfoldable pub settingsOf : Bool → ℕ → ℕ → ℕ → ℕ → Groups → Bool
+settingsOf test n1 t clock count groups =
+    leb clock clockMost && leb count sendersMost && isN1 n1 && isDropTime t && groupsWithin groups
+    && (ltb 0 count || (not test && eqb n1 1 && eqb t 1 && eqb (groups .count) 0))
 
 abbrev pub settingsWithin : Receiver → Bool
-settingsWithin w = settingsOf (w .test) (w .n1) (w .t) (w .clock) (w .count)
+settingsWithin w = settingsOf (w .test) (w .n1) (w .t) (w .clock) (w .count) (w .groups)
 
 unfoldable pub valid : Receiver → Bool
 valid w = settingsWithin w && sendersWithin (w .clock) (w .senders) (w .count)

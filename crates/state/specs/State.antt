@@ -4,6 +4,8 @@ use mathlib.Core.Bool.{Bool, false, cond}
 use mathlib.Core.List.{List}
 use lib.Dec.{ltb}
 use lib.ListN.{getD, replicate}
+use Rattle.groups.specs.declared.Groups.{Groups}
+use Rattle.groups.specs.Groups.{noGroups}
 use Rattle.state.specs.declared.Last.{Last}
 use Rattle.state.specs.declared.Message.{Message}
 use Rattle.state.specs.declared.Heard.{Heard}
@@ -52,19 +54,25 @@ pub record Settings : Type 0 where
   pub n1 : ℕ
   pub t : ℕ
   pub count : ℕ
+  -- 02, Item 5: "0 to 8 registered groups"
+  pub groups : Groups
 
 abbrev pub settingsFrom : Receiver → Settings
-settingsFrom w = record { test = w .test; n1 = w .n1; t = w .t; count = w .count }
+settingsFrom w = record { test = w .test; n1 = w .n1; t = w .t; count = w .count; groups = w .groups }
 
 -- A state: its settings, the time and the senders.
 abbrev pub stateOf : Settings → ℕ → List Sender → Receiver
-stateOf g clock senders = record { test = g .test; n1 = g .n1; t = g .t; clock = clock; count = g .count; senders = senders }
+stateOf g clock senders = record { test = g .test; n1 = g .n1; t = g .t; clock = clock; count = g .count; groups = g .groups; senders = senders }
 
 -- "An empty state, with no senders, is what a refused setup returns (online, N1 1, T 1)"
 abbrev pub emptyReceiver : Receiver
-emptyReceiver = stateOf (record { test = false; n1 = 1; t = 1; count = 0 }) 0 (replicate sendersMost noSender)
+emptyReceiver = stateOf (record { test = false; n1 = 1; t = 1; count = 0; groups = noGroups }) 0 (replicate sendersMost noSender)
 
 -- ---- with a part changed
+
+-- Settings with other groups.
+abbrev pub withGroups : Settings → Groups → Settings
+withGroups g groups = record { test = g .test; n1 = g .n1; t = g .t; count = g .count; groups = groups }
 
 -- A state with other senders.
 abbrev pub withSenders : Receiver → List Sender → Receiver

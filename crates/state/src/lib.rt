@@ -13,6 +13,7 @@ ghost use Rattle.state.specs.Table.{source, lookAt};
 ghost use Rattle.state.specs.State.{sendersMost, newSender, withMessage, withHeard, withLast, emptyReceiver};
 use cut::pieces::MOST_OCTETS;
 use cut::possible::several;
+use groups::Groups;
 use header::Head;
 use header::codes::DataField;
 use header::codes::Node;
@@ -77,6 +78,7 @@ pub struct Receiver {
     pub t: u32,
     pub clock: u64,
     pub count: u8,
+    pub groups: Groups,
     pub senders: [Sender; Receiver::PLACES],
 }
 
@@ -275,6 +277,7 @@ impl Receiver {
             t: 1,
             clock: 0,
             count: 0,
+            groups: Groups::NONE,
             senders: [Sender::NONE; Receiver::PLACES],
         }
     }
@@ -291,11 +294,14 @@ impl Receiver {
     fn settings_within(self) -> bool
         ensures { λ r. ⌜ r ≡ settingsWithin self ⌝ }
     {
+        let groups = self.groups;
         (self.clock <= Receiver::CLOCK_MOST)
             & (self.count as usize <= Receiver::PLACES)
             & ((1 <= self.n1) & (self.n1 <= Receiver::N1_MOST))
             & ((1 <= self.t) & (self.t <= Receiver::DROP_TIME_MOST))
-            & ((0 < self.count) | (!self.test & (self.n1 == 1) & (self.t == 1)))
+            & groups.within()
+            & ((0 < self.count)
+                | (!self.test & (self.n1 == 1) & (self.t == 1) & (groups.count == 0)))
     }
 
     // For the maintenance page: how many pieces of the sender at a place are held, the number kept. Nothing is counted, and

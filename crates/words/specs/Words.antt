@@ -5,6 +5,8 @@ use mathlib.Core.Bool.{Bool, true, not, cond, _&&_, _||_}
 use mathlib.Core.List.{List, [], _∷_, _++_}
 use lib.Dec.{eqb, leb, ltb}
 use lib.ListN.{length, getD, drop}
+use Rattle.groups.specs.declared.Groups.{Groups}
+use Rattle.groups.specs.Groups.{numberAt}
 use Rattle.state.specs.declared.Address.{Address}
 use Rattle.state.specs.declared.Heard.{Heard}
 use Rattle.state.specs.declared.Last.{Last}
@@ -16,9 +18,10 @@ use Rattle.words.specs.declared.Record.{Record}
 
 -- ---- the table
 
--- Five words come first: test, N1, T, the clock and the count. Then each of the 16 senders has ten.
+-- Seven words come first: test, N1, T, the clock, the count, how many groups there are, and the groups. Then each of the
+-- 16 senders has ten.
 abbrev pub before : ℕ
-before = 5
+before = 7
 
 abbrev pub each : ℕ
 each = 10
@@ -77,6 +80,22 @@ pair version number = version * half + number
 -- TCD, n and u, two octets each; how many pieces are held and TBN, one each.
 abbrev pub cutWord : Message → ℕ
 cutWord m = m .tcd * 281474976710656 + m .n * half + m .u * 65536 + m .held * 256 + m .tbn
+
+-- The groups, an octet each, the first lowest.
+abbrev pub groupsIn : ℕ → ℕ → Groups
+groupsIn count w = record {
+  count = count;
+  list = record { 0 = w % 256 } ∷ record { 0 = w / 256 % 256 } ∷ record { 0 = w / 65536 % 256 } ∷ record { 0 = w / 16777216 % 256 }
+      ∷ record { 0 = w / half % 256 } ∷ record { 0 = w / 1099511627776 % 256 } ∷ record { 0 = w / 281474976710656 % 256 }
+      ∷ record { 0 = w / 72057594037927936 } ∷ [];
+}
+
+-- Four of them from a place on.
+abbrev pub fourAt : Groups → ℕ → ℕ
+fourAt g k = numberAt g (k + 3) * 16777216 + numberAt g (k + 2) * 65536 + numberAt g (k + 1) * 256 + numberAt g k
+
+abbrev pub groupsWord : Groups → ℕ
+groupsWord g = fourAt g 4 * half + fourAt g 0
 
 -- ---- what one sender's words say
 
@@ -170,7 +189,7 @@ listed f zero = []
 listed f (suc k) = listed f k ++ (f k ∷ [])
 
 abbrev pub settingsIn : List ℕ → Settings
-settingsIn l = record { test = flag (word l 0); n1 = word l 1; t = word l 2; count = word l 4 }
+settingsIn l = record { test = flag (word l 0); n1 = word l 1; t = word l 2; count = word l 4; groups = groupsIn (word l 5) (word l 6) }
 
 unfoldable pub sendersIn : List ℕ → List Sender
 sendersIn l = listed (λ i. senderOf (recordAt l i)) sendersMost
@@ -196,7 +215,7 @@ senderWords f zero = []
 senderWords f (suc k) = senderWords f k ++ recordWords (recordOf (f k))
 
 abbrev pub settingsWords : Receiver → List ℕ
-settingsWords w = flagWord (w .test) ∷ w .n1 ∷ w .t ∷ w .clock ∷ w .count ∷ []
+settingsWords w = flagWord (w .test) ∷ w .n1 ∷ w .t ∷ w .clock ∷ w .count ∷ w .groups .count ∷ groupsWord (w .groups) ∷ []
 
 -- The words of a state, with those of its first k senders.
 abbrev pub front : Receiver → ℕ → List ℕ

@@ -21,6 +21,7 @@ use Rattle.state.specs.State.{sendersMost, noSender, senderAt, settingsFrom, st
 use Rattle.rules.specs.calls.Message.{withSender}
 use Rattle.words.specs.declared.Record.{Record}
 use Rattle.words.specs.Words.{before, each, place, wordsMost, word, recordIn, recordWords, recordAt, half, flag, flagWord, senderOf, recordOf, fits, listed, sendersIn, stateIn, fitTo, isState, senderWords, settingsWords, front, written, leftBy}
+use Rattle.words.specs.GroupsLaws.{groups-back}
 use Rattle.words.specs.WordsLaws.{record-there, record-read}
 use Rattle.words.specs.ListedLaws.{length-listed, listed-at, listed-same, listed-set}
 use Rattle.words.specs.StateLaws.{sender-in, fit-each, IsState, state-facts, state-of}
@@ -59,9 +60,9 @@ unfolding listed
 firsts zero l h = refl
 firsts (suc n) l h = take-suc l n 0 h ∙ ap (λ (t : List ℕ). t ++ (word l n ∷ [])) (firsts n l (omega arith))
 
-five : (l : List ℕ) → length l ≡ wordsMost → word l 0 ≤ 1 → settingsWords (stateIn l) ≡ take before l
+seven : (l : List ℕ) → length l ≡ wordsMost → word l 0 ≤ 1 → settingsWords (stateIn l) ≡ take before l
 unfolding listed
-five l many test = rw (flag-back (word l 0) test) (sym (firsts before l (omega arith)))
+seven l many test = rw (flag-back (word l 0) test, groups-back (word l 5) (word l 6)) (sym (firsts before l (omega arith)))
 
 ten : (l : List ℕ) (i : ℕ) → place i + each ≤ length l → recordWords (recordAt l i) ≡ take each (drop (place i) l)
 unfolding listed
@@ -74,7 +75,7 @@ part-in l i h = ap recordIn (sym (ten l i h))
 -- The words of the first k senders are those that were read.
 front-same : (l : List ℕ) → length l ≡ wordsMost → word l 0 ≤ 1 → (k : ℕ) → k ≤ sendersMost → fitTo l k ≡ true → front (stateIn l) k ≡ take (place k) l
 unfolding senderWords
-front-same l many test zero few fit = five l many test
+front-same l many test zero few fit = seven l many test
 front-same l many test (suc k) few fit =
     let fit-before = and-left (fitTo l k) (fits (recordAt l k)) (unfold fitTo in fit) in
     let fit-here = fit-each l (suc k) fit k (omega arith) in
@@ -148,7 +149,7 @@ module _ (l : List ℕ) (ms : ℕ) (f : IsState l) where
 
   pub clock-state : stateIn (set l 3 ms) ≡ stateOf (settingsFrom (stateIn l)) ms (sendersIn l)
   clock-state =
-      rw (set-word 0 (λ e. omega (arith, e)), set-word 1 (λ e. omega (arith, e)), set-word 2 (λ e. omega (arith, e)), set-word 4 (λ e. omega (arith, e)), getD-set-same l 3 ms 0 (omega (arith, f .many)), set-senders l ms)
+      rw (set-word 0 (λ e. omega (arith, e)), set-word 1 (λ e. omega (arith, e)), set-word 2 (λ e. omega (arith, e)), set-word 4 (λ e. omega (arith, e)), set-word 5 (λ e. omega (arith, e)), set-word 6 (λ e. omega (arith, e)), getD-set-same l 3 ms 0 (omega (arith, f .many)), set-senders l ms)
 
   pub clock-beyond : (k : ℕ) → drop (place k) (set l 3 ms) ≡ drop (place k) l
   clock-beyond k = drop-set-lt (place k) l 3 ms (omega arith)
@@ -205,7 +206,7 @@ module _ (l : List ℕ) (many : length l ≡ wordsMost) (i : ℕ) (few : i < sen
   pub put-state : stateIn put-down ≡ withSender (stateIn l) i (senderOf r)
   unfolding withSender
   put-state =
-      rw (put-front 0 (omega arith), put-front 1 (omega arith), put-front 2 (omega arith), put-front 3 (omega arith), put-front 4 (omega arith), put-senders)
+      rw (put-front 0 (omega arith), put-front 1 (omega arith), put-front 2 (omega arith), put-front 3 (omega arith), put-front 4 (omega arith), put-front 5 (omega arith), put-front 6 (omega arith), put-senders)
 
   put-fits : fits r ≡ true → (k : ℕ) → k ≤ sendersMost → fitTo l k ≡ true → fitTo put-down k ≡ true
   unfolding fitTo

@@ -6,11 +6,15 @@
 // is said in specs/Words.antt.
 ghost use mathlib.Core.Path.{_≡_};
 ghost use mathlib.Core.Bool.{cond};
+ghost use Prim.Native.Nat.{_%_, _≤_, _<_};
 ghost use lib.ListN.{set as setAt};
+ghost use Rattle.groups.specs.Groups.{numberAt};
 ghost use Rattle.octets.specs.Run.{laid};
 ghost use Rattle.state.specs.State.{noMessage};
-ghost use Rattle.words.specs.Words.{place, word, messageIn, flag, recordAt, recordWords, recordOf, joinedBy, heardAs, pair as pairOf, cutWord};
+ghost use Rattle.words.specs.Words.{place, word, half, groupsIn, fourAt, groupsWord, messageIn, flag, recordAt, recordWords, recordOf, joinedBy, heardAs, pair as pairOf, cutWord};
 ghost use Rattle.words.specs.Shown.{heardShown, shown};
+use groups::Group;
+use groups::Groups;
 use header::codes::DataField;
 use header::codes::Node;
 use ring::Number;
@@ -44,6 +48,54 @@ pub fn set(words: &mut [u64], k: usize, x: u64)
     if k < words.len() {
         words[k] = x;
     }
+}
+
+// ---- the groups
+
+// The groups, with a count that an octet holds.
+pub fn groups(words: &[u64]) -> Groups
+    ensures { λ r. ⌜ r ≡ groupsIn (word (now (words .entry)) 5 % 256) (word (now (words .entry)) 6) ⌝ }
+{
+    let count = (at(words, places::GROUP_COUNT) % 256) as u8;
+    let w = at(words, places::GROUPS);
+    Groups {
+        count,
+        list: [
+            Group((w % 256) as u8),
+            Group((w / 256 % 256) as u8),
+            Group((w / QUARTER % 256) as u8),
+            Group((w / 16_777_216 % 256) as u8),
+            Group((w / HALF % 256) as u8),
+            Group((w / 1_099_511_627_776 % 256) as u8),
+            Group((w / 281_474_976_710_656 % 256) as u8),
+            Group((w / 72_057_594_037_927_936) as u8),
+        ],
+    }
+}
+
+// The word of the groups.
+pub fn groups_word(groups: Groups) -> u64
+    ensures { λ r. ⌜ r ≡ groupsWord groups ⌝ }
+{
+    four(groups, 4) * HALF + four(groups, 0)
+}
+
+// Four of them from a place on.
+fn four(groups: Groups, k: u8) -> u64
+    requires { ⌜ k ≤ 4 ⌝ }
+    ensures { λ r. ⌜ (r ≡ fourAt groups k) × (r < half) ⌝ }
+{
+    octet(groups, k + 3) * 16_777_216
+        + octet(groups, k + 2) * QUARTER
+        + octet(groups, k + 1) * 256
+        + octet(groups, k)
+}
+
+fn octet(groups: Groups, k: u8) -> u64
+    ensures { λ r. ⌜ (r ≡ numberAt groups k) × (r < 256) ⌝ }
+{
+    let group = groups.at(k);
+    group.0 as u64
 }
 
 // ---- one sender's words

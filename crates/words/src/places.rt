@@ -10,14 +10,19 @@ pub const CLOCK: usize = 3;
 
 pub const COUNT: usize = 4;
 
+// how many groups there are, and the groups
+pub const GROUP_COUNT: usize = 5;
+
+pub const GROUPS: usize = 6;
+
 // where the first sender's words begin
-pub const SENDERS: usize = 5;
+pub const SENDERS: usize = 7;
 
 // how many words each sender has
 pub const EACH: usize = 10;
 
 // how many words a state has
-pub const WORDS: usize = 165;
+pub const WORDS: usize = 167;
 
 // ---- within one sender's words
 

@@ -9,6 +9,7 @@ use native.Mathlib.Omega.{arith}
 use lib.Dec.{leb}
 use borrow.Author.Tests.{leb-true}
 use Rattle.octets.specs.Split.{both, and-left, and-right}
+use Rattle.groups.specs.Groups.{groupsWithin}
 use Rattle.state.specs.declared.Address.{Address}
 use Rattle.state.specs.declared.Look.{Look}
 use Rattle.state.specs.Limits.{clockMost, isN1, isDropTime, senderWithin, settingsOf, valid}
@@ -17,7 +18,7 @@ use Rattle.state.specs.Table.{lookAt}
 use Rattle.state.specs.WithinLaws.{SenderWithin, valid-settings, valid-sender, sender-of}
 use Rattle.rules.specs.calls.Alike.{seen}
 use Rattle.words.specs.declared.Record.{Record}
-use Rattle.words.specs.Words.{word, recordAt, senderOf, fits, isState, stateIn}
+use Rattle.words.specs.Words.{word, groupsIn, recordAt, senderOf, fits, isState, stateIn}
 use Rattle.words.specs.Shown.{shown}
 use Rattle.words.specs.StateLaws.{state-facts, sender-in, fit-each}
 use Rattle.words.specs.WordsLaws.{shown-seen}
@@ -50,7 +51,8 @@ n1-octets l e =
     let a2 = leb (word l 4) sendersMost in
     let a3 = isN1 (word l 1) in
     let a4 = isDropTime (word l 2) in
-    let e4 = and-left (a1 && a2 && a3 && a4) _ (valid-settings (stateIn l) e) in
+    let a5 = groupsWithin (groupsIn (word l 5) (word l 6)) in
+    let e4 = and-left (a1 && a2 && a3 && a4) a5 (and-left (a1 && a2 && a3 && a4 && a5) _ (valid-settings (stateIn l) e)) in
     let n1 = and-right (a1 && a2) a3 (and-left (a1 && a2 && a3) a4 e4) in
     mod-eq-of-lt (omega (arith, leb-true (word l 1) 1024 (and-right (leb 1 (word l 1)) (leb (word l 1) 1024) n1)))
 

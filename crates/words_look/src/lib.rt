@@ -5,8 +5,9 @@
 // where they stand, and no further than to the first that is outside its limits.
 ghost use mathlib.Core.Path.{_≡_};
 ghost use mathlib.Core.Bool.{true, _&&_};
+ghost use Rattle.groups.specs.Groups.{groupsWithin};
 ghost use Rattle.state.specs.Limits.{isAddress, lastWithin, messageWithin};
-ghost use Rattle.words.specs.Words.{recordIn, addressIn, lastIn, messageIn};
+ghost use Rattle.words.specs.Words.{word, groupsIn, recordIn, addressIn, lastIn, messageIn};
 ghost use Rattle.words_look.specs.Look.{isHeld, placeIn, lookIn};
 ghost use Rattle.words_look.specs.private.Tests.{eachSetting, settingsFit, recordWithin, Sized, recordsWithin, noneTwice, aliveWithin, openWithin, cutWithin};
 use cut::possible::several;
@@ -22,6 +23,7 @@ use words::HALF;
 use words::QUARTER;
 use words::at;
 use words::first_of;
+use words::groups;
 use words::places;
 
 // ---- the whole state
@@ -79,7 +81,10 @@ fn settings_within(words: &[u64]) -> bool
     if 0 < at(words, places::COUNT) {
         return true;
     }
-    (at(words, places::TEST) != 1) & (at(words, places::N1) == 1) & (at(words, places::T) == 1)
+    (at(words, places::TEST) != 1)
+        & (at(words, places::N1) == 1)
+        & (at(words, places::T) == 1)
+        & (at(words, places::GROUP_COUNT) == 0)
 }
 
 // Each setting by itself.
@@ -93,6 +98,17 @@ fn each_setting(words: &[u64]) -> bool
         & (at(words, places::COUNT) <= 16)
         & ((1 <= n1) & (n1 <= 1_024))
         & ((1 <= t) & (t <= 600_000))
+        & groups_within(words)
+}
+
+fn groups_within(words: &[u64]) -> bool
+    ensures { λ r. ⌜ r ≡ groupsWithin (groupsIn (word (now (words .entry)) 5) (word (now (words .entry)) 6)) ⌝ }
+{
+    if 8 < at(words, places::GROUP_COUNT) {
+        return false;
+    }
+    let groups = groups(words);
+    groups.within()
 }
 
 // ---- all senders

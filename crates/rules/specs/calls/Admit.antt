@@ -34,9 +34,12 @@ unfoldable pub sameCut : Message → Head → Bool
 sameCut m h =
     eqb (m .tcd) (h .given .tcd) && eqb (m .n) (messageLength (h .cut)) && eqb (m .tbn) (h .cut .tbn) && eqb (m .u) (unit (h .cut))
 
--- What the number check says of the PDU.
+-- What the number check says of the PDU, by the last delivered version and number.
+abbrev pub verdictBy : ℕ → Last → Head → Verdict
+verdictBy n1 l h = check n1 (l .version) (l .number) (h .given .version) (h .given .number)
+
 abbrev pub verdictOf : ℕ → Sender → Head → Verdict
-verdictOf n1 s h = check n1 (s .last .version) (s .last .number) (h .given .version) (h .given .number)
+verdictOf n1 s h = verdictBy n1 (s .last) h
 
 -- ---- the numbers
 

@@ -12,6 +12,9 @@ use lib.Seq.{getD-set-same, getD-set-other}
 use borrow.Author.Tests.{ltb-true, eqb-true, not-false}
 use Rattle.octets.specs.Split.{eq-or-ne}
 use Rattle.header.specs.declared.Head.{Head}
+use Rattle.groups.specs.declared.Groups.{Groups}
+use Rattle.groups.specs.Groups.{kept}
+use Rattle.groups.specs.GroupsLaws.{alike-within}
 use Rattle.signal.specs.Alive.{bodyOf}
 use Rattle.header.specs.Head.{headOf}
 use Rattle.map.specs.Map.{lowestMissing}
@@ -30,13 +33,13 @@ use Rattle.rules.specs.calls.QuestionLaws.{first-holds}
 use Rattle.rules.specs.calls.ClockLaws.{aged-done}
 use Rattle.rules.specs.calls.First.{first}
 use Rattle.rules.specs.calls.FirstLaws.{first-none, first-behind, numbered}
-use Rattle.state.specs.Limits.{senderWithin, addressAt, sendersWithin, valid}
+use Rattle.state.specs.Limits.{senderWithin, addressAt, sendersWithin, settingsOf, valid}
 use Rattle.state.specs.LimitsLaws.{new-ext}
 use Rattle.state.specs.Table.{found}
 use Rattle.rules.specs.calls.Message.{packetRows, messageRows, messageNumber, whereBy, withSender, taken, refused, messageAnswer, messageStorage}
 use Rattle.rules.specs.calls.MessageLaws.{passed-facts, taken-facts}
 use Rattle.rules.specs.calls.Question.{firstOpen, missingOf, questionAnswer}
-use Rattle.state.specs.State.{noSender, senderAt, firstWhere, Settings, settingsFrom, stateOf, withSenders}
+use Rattle.state.specs.State.{noSender, senderAt, firstWhere, Settings, settingsFrom, stateOf, withGroups}
 use Rattle.rules.specs.calls.SeenLaws.{LooksAtSeen, looks-same, ChangesSeen, changes-same, looks-address, looks-open, looks-message, looks-within, looks-drops, looks-dies, changes-aged, changes-heard, looks-rows, looks-dropped, looks-held, looks-outcome, changes-after}
 use Rattle.state.specs.WithinLaws.{valid-length}
 
@@ -100,17 +103,25 @@ clock-passed w now e = not-false (valid w) (first-none 9 (not (valid w)) _ (λ z
 
 -- ---- "never looked at"
 
-alike-tables : {g : Settings} {clock : ℕ} {l m : List Sender} → AlikeTables l m (g .count) → Alike (stateOf g clock l) (stateOf g clock m)
-alike-tables a = record { same-settings = refl; same-clock = refl; same-seen = a }
+-- A state with other groups and another table.
+abbrev withOthers : Receiver → Groups → List Sender → Receiver
+withOthers w g m = stateOf (withGroups (settingsFrom w) g) (w .clock) m
 
--- First for two states that differ in their tables alone.
-module _ (w : Receiver) (m : List Sender) (a : AlikeTables (w .senders) m (w .count)) where
+-- First for two states that differ in their tables, and in their groups past the count, alone.
+module _ (w : Receiver) (g : Groups) (same-groups : kept (w .groups) ≡ kept g) (m : List Sender) (a : AlikeTables (w .senders) m (w .count)) where
   abbrev other : Receiver
-  other = withSenders w m
+  other = withOthers w g m
+
+  alike-tables : {clock : ℕ} {l n : List Sender} → AlikeTables l n (w .count) → Alike (stateOf (settingsFrom w) clock l) (stateOf (withGroups (settingsFrom w) g) clock n)
+  alike-tables b = record { same-settings = ap (withGroups (settingsFrom w)) same-groups; same-clock = refl; same-seen = b }
 
   same-valid : valid w ≡ valid other
-  unfolding valid
-  same-valid = rw (same-within (w .senders) m (w .clock) (w .count) a)
+  unfolding valid settingsOf
+  same-valid = rw (
+    same-within (w .senders) m (w .clock) (w .count) a,
+    ← alike-within (w .groups) g same-groups,
+    ← ap (λ (x : Groups). x .count) same-groups,
+  )
 
   same-found : (h : Head) → found w h ≡ found other h
   same-found h = same-first (w .senders) m _ (λ s. rw (looks-address s)) (w .count) a
@@ -226,28 +237,30 @@ module _ (w : Receiver) (m : List Sender) (a : AlikeTables (w .senders) m (w .co
 
 -- Then for any two that are alike.
 module _ (w v : Receiver) (a : Alike w v) where
-  by-tables : (P : Receiver → Type 0) → ((m : List Sender) → AlikeTables (w .senders) m (w .count) → P (withSenders w m)) → P v
+  by-tables : (P : Receiver → Type 0)
+      → ((g : Groups) → kept (w .groups) ≡ kept g → (m : List Sender) → AlikeTables (w .senders) m (w .count) → P (withOthers w g m)) → P v
   by-tables P f =
-      let settings : withSenders w (v .senders) ≡ v
-      = ap (λ (g : Settings). stateOf g (w .clock) (v .senders)) (a .same-settings) ∙ ap (λ (t : ℕ). stateOf (settingsFrom v) t (v .senders)) (a .same-clock) in
-      subst P settings (f (v .senders) (a .same-seen))
+      let settings : withOthers w (v .groups) (v .senders) ≡ v
+      = ap (λ (g : Settings). stateOf (withGroups g (v .groups)) (w .clock) (v .senders)) (a .same-settings)
+      ∙ ap (λ (t : ℕ). stateOf (settingsFrom v) t (v .senders)) (a .same-clock) in
+      subst P settings (f (v .groups) (ap (λ (g : Settings). g .groups) (a .same-settings)) (v .senders) (a .same-seen))
 
   pub alike-valid : valid w ≡ valid v
   alike-valid = by-tables (λ (u : Receiver). valid w ≡ valid u) (same-valid w)
 
   pub alike-message : (room : ℕ) (packet : List ℕ) → AlikeAnswer (messageAnswer w room packet) (messageAnswer v room packet)
   alike-message room packet = by-tables (λ (u : Receiver). AlikeAnswer (messageAnswer w room packet) (messageAnswer u room packet))
-      (λ m b. alike-answer w m b room packet)
+      (λ g c m b. alike-answer w g c m b room packet)
 
   pub alike-storage : (storage packet : List ℕ) → messageStorage w storage packet ≡ messageStorage v storage packet
   alike-storage storage packet = by-tables (λ (u : Receiver). messageStorage w storage packet ≡ messageStorage u storage packet)
-      (λ m b. same-storage w m b storage packet)
+      (λ g c m b. same-storage w g c m b storage packet)
 
   pub alike-alive : (packet : List ℕ) → AlikeNoted (aliveAnswer w packet) (aliveAnswer v packet)
-  alike-alive packet = by-tables (λ (u : Receiver). AlikeNoted (aliveAnswer w packet) (aliveAnswer u packet)) (λ m b. alike-noted w m b packet)
+  alike-alive packet = by-tables (λ (u : Receiver). AlikeNoted (aliveAnswer w packet) (aliveAnswer u packet)) (λ g c m b. alike-noted w g c m b packet)
 
   pub alike-clock : (now : ℕ) → AlikeTicked (clockAnswer w now) (clockAnswer v now)
-  alike-clock now = by-tables (λ (u : Receiver). AlikeTicked (clockAnswer w now) (clockAnswer u now)) (λ m b. alike-ticked w m b now)
+  alike-clock now = by-tables (λ (u : Receiver). AlikeTicked (clockAnswer w now) (clockAnswer u now)) (λ g c m b. alike-ticked w g c m b now)
 
   pub alike-question : questionAnswer w ≡ questionAnswer v
   alike-question = by-tables (λ (u : Receiver). questionAnswer w ≡ questionAnswer u) (same-question w)

@@ -17,12 +17,14 @@ use Rattle.header.specs.Head.{headOf}
 use Rattle.state.specs.declared.Receiver.{Receiver}
 use Rattle.state.specs.declared.Sender.{Sender}
 use Rattle.answers.specs.declared.Call.the-variants as call
+use Rattle.answers.specs.declared.Listener.{Listener}
 use Rattle.answers.specs.declared.Missing.{Missing}
 use Rattle.answers.specs.declared.Missing.the-variants as missing
 use Rattle.answers.specs.declared.Outcome.{Outcome}
+use Rattle.answers.specs.declared.Outcome.the-variants as outcome
 use Rattle.answers.specs.declared.Setup.{Setup}
 use Rattle.answers.specs.declared.Started.{Started}
-use Rattle.answers.specs.Told.{leastRefusal, RefusedAs, messageTold, callNumber, clockTold, questionTold, outcomeTold, OutcomeTells, CallTells, MissingTells}
+use Rattle.answers.specs.Told.{leastRefusal, RefusedAs, messageTold, groupTold, callNumber, clockTold, questionTold, outcomeTold, OutcomeTells, CallTells, MissingTells}
 use Rattle.rules.specs.calls.Admit.{senderRows, admitted, fills}
 use Rattle.rules.specs.calls.Alive.{aliveRows, notNoted, aliveAnswer}
 use Rattle.rules.specs.calls.Clock.{clockRows, ticked, notTicked, clockAnswer}
@@ -30,6 +32,7 @@ use Rattle.rules.specs.calls.First.{Row, first, Given}
 use Rattle.rules.specs.calls.FirstLaws.{given-first, first-given, above, rises, given-above}
 use Rattle.state.specs.Table.{found}
 use Rattle.rules.specs.calls.Message.{messageRows, taken, refused, messageAnswer, messageStorage}
+use Rattle.rules.specs.calls.Multicast.{Tables, castRows, listening, multicastRows, castOutcome, keptBy, groupAnswer, multicastAnswer, multicastTables}
 use Rattle.rules.specs.calls.Question.{questionRows, firstOpen, questionAnswer}
 use Rattle.rules.specs.calls.Setup.{setupWithin, setupState, setupAnswer}
 use Rattle.state.specs.State.{senderAt, emptyReceiver}
@@ -169,6 +172,33 @@ module _ (w : Receiver) where
   unfolding questionAnswer
   question-tells = tells-by (questionRows w) question-above _ missing.Refused MissingTells
       (cond-case MissingTells (ltb (firstOpen w) (w .count)) _ _ (λ _. tt) (λ _. tt)) (λ k more. more)
+
+-- ---- the multicast call: 9, 26, 12 to 14, 25, 15 to 17
+
+module _ (w : Receiver) (t : Tables) (g : ℕ) (packet : List ℕ) where
+  abbrev heard : Listener
+  heard = listening w (headOf packet)
+
+  multicast-above : above 8 (multicastRows w t g packet) ≡ true
+  unfolding castRows above
+  multicast-above = refl
+
+  outcome-refused : (k : ℕ) → Given (multicastRows w t g packet) k → castOutcome heard t g packet (headOf packet) ≡ outcome.Refused k
+  unfolding castOutcome
+  outcome-refused = given-refused (multicastRows w t g packet) multicast-above _ outcome.Refused
+
+  pub multicast-refuses : (k : ℕ) → Given (multicastRows w t g packet) k
+      → (multicastAnswer w t g packet ≡ groupAnswer (outcome.Refused k)) × (multicastTables w t g packet ≡ t)
+  unfolding multicastAnswer multicastTables keptBy
+  multicast-refuses k given = (rw (outcome-refused k given), rw (outcome-refused k given))
+
+  pub multicast-given : (k : ℕ) → RefusedAs (groupTold (multicastAnswer w t g packet) .outcome .number) k → Given (multicastRows w t g packet) k
+  unfolding multicastAnswer castOutcome
+  multicast-given = refused-given (multicastRows w t g packet) multicast-above _ outcome.Refused (λ o. outcomeTold o .number) (omega arith) (λ k. refl)
+
+  pub multicast-tells : OutcomeTells (multicastAnswer w t g packet .outcome)
+  unfolding multicastAnswer castOutcome
+  multicast-tells = tells-by (multicastRows w t g packet) multicast-above _ outcome.Refused OutcomeTells tt (λ k more. more)
 
 -- ---- setup: 10
 

@@ -8,12 +8,15 @@ use Prim.Native.Nat.{ℕ, zero, suc, _≤_, _<_}
 use native.Mathlib.Omega.{arith}
 use lib.Dec.{eqb, leb, ltb}
 use lib.ListN.{getD, set}
-use borrow.Author.Tests.{le-leb, ltb-false, eqb-true, not-true}
+use borrow.Author.Tests.{le-leb, lt-ltb, ltb-false, eqb-true, not-true}
 use Rattle.octets.specs.Split.{true-or-false, cond-case, both, and-left, and-right}
 use Rattle.ring.specs.Ring.{isNumber}
+use Rattle.groups.specs.declared.Groups.{Groups}
+use Rattle.groups.specs.Groups.{eachGroup, groupsWithin}
+use Rattle.groups.specs.GroupsLaws.{kept-within}
 use Rattle.signal.specs.declared.Body.{Body}
 use Rattle.signal.specs.Alive.{bodyOf}
-use Rattle.header.specs.Codes.{within, isUser, isMode, isPri}
+use Rattle.header.specs.Codes.{isUser, isMode, isPri}
 use Rattle.header.specs.Head.{headOf, isFixed}
 use Rattle.state.specs.declared.Address.{Address}
 use Rattle.state.specs.declared.Sender.{Sender}
@@ -28,13 +31,13 @@ use Rattle.rules.specs.calls.Alive.{heardBy, aliveRows, aliveAnswer}
 use Rattle.rules.specs.calls.Clock.{drops, dies, aged, agedSenders, ticked, notTicked, clockAnswer}
 use Rattle.rules.specs.calls.ClockLaws.{aged-done, clock-back, clock-on}
 use Rattle.rules.specs.calls.First.{first}
-use Rattle.state.specs.Limits.{clockMost, isN1, isDropTime, isAddress, lastWithin, senderWithin, addressAt, sendersWithin, settingsOf, settingsWithin, valid, given, addressesWithin}
+use Rattle.state.specs.Limits.{clockMost, isAddress, lastWithin, senderWithin, addressAt, sendersWithin, settingsOf, settingsWithin, valid, given, addressesWithin}
 use Rattle.state.specs.LimitsLaws.{new-ext}
 use Rattle.state.specs.Table.{found}
 use Rattle.rules.specs.calls.Message.{headWithin, messageNumber, withSender, taken, refused, messageAnswer}
 use Rattle.rules.specs.calls.MessageLaws.{or-false, taken-facts}
 use Rattle.rules.specs.calls.Setup.{setupWithin, newSenders, setupState, setupAnswer}
-use Rattle.rules.specs.calls.SetupLaws.{setup-count}
+use Rattle.rules.specs.calls.SetupLaws.{setup-facts}
 use Rattle.state.specs.State.{sendersMost, noSender, newSender, senderAt, emptyReceiver}
 use Rattle.state.specs.WithinLaws.{message-later, Stays, senders-stay, set-place, written-place, valid-settings, valid-senders, valid-length}
 
@@ -42,7 +45,7 @@ use Rattle.state.specs.WithinLaws.{message-later, Stays, senders-stay, set-plac
 
 -- "An empty state, with no senders, is what a refused setup returns …; 9 lets it pass."
 pub empty-valid : valid emptyReceiver ≡ true
-unfolding valid settingsOf sendersWithin
+unfolding valid settingsOf groupsWithin eachGroup sendersWithin
 empty-valid = refl
 
 -- "nobody is heard, nothing is open and every last version and number is 0": only the address of a new sender can be
@@ -62,22 +65,13 @@ new-senders l m (suc k) f =
     rw (new-senders l m k (λ j h. f j (omega arith)), same k (omega arith), new, f k (omega arith), new-within)
 
 setup-state : (q : Setup) → setupWithin q ≡ true → valid (setupState q) ≡ true
-unfolding setupWithin setupState valid settingsOf newSenders
+unfolding setupState valid settingsOf newSenders
 setup-state q e =
     let l = q .senders in
-    let a1 = leb (q .mode) 1 in
-    let a2 = isN1 (q .n1) in
-    let a3 = isDropTime (q .t) in
-    let some = leb 1 (q .count) in
-    let few = leb (q .count) sendersMost in
-    let a5 = addressesWithin l (q .count) in
-    let e4 = and-left (a1 && a2 && a3 && (some && few)) a5 e in
-    let e3 = and-left (a1 && a2 && a3) (some && few) e4 in
-    let count = and-right (a1 && a2 && a3) (some && few) e4 in
-    let n1 = and-right a1 a2 (and-left (a1 && a2) a3 e3) in
+    let facts = setup-facts q e in
     let place = written-place (newSenders l) (λ k. newSender (given l k)) (λ k. refl) (q .count) in
-    let senders = new-senders l (newSenders l (q .count)) (q .count) (λ j h. place j h (omega (arith, setup-count q e))) in
-    rw (and-right some few count, n1, and-right (a1 && a2) a3 e3, and-left some few count) (senders ∙ and-right (a1 && a2 && a3 && (some && few)) a5 e)
+    let senders = new-senders l (newSenders l (q .count)) (q .count) (λ j h. place j h (omega (arith, facts .count))) in
+    rw (le-leb (q .count) sendersMost (facts .count), facts .n1, facts .t, kept-within (q .groups), facts .groups, lt-ltb 0 (q .count) (facts .count-some)) (senders ∙ facts .addresses)
 
 pub setup-valid : (q : Setup) → valid (setupAnswer q .state) ≡ true
 unfolding setupAnswer
@@ -163,9 +157,10 @@ aged-stays t clock now s h = record {
 }
 
 -- Of the settings only the clock moves, and 21 holds it to its limit.
-settings-later : (test : Bool) (n1 t clock now count : ℕ) → now ≤ clockMost → settingsOf test n1 t clock count ≡ true → settingsOf test n1 t now count ≡ true
+settings-later : (test : Bool) (n1 t clock now count : ℕ) (groups : Groups) → now ≤ clockMost
+    → settingsOf test n1 t clock count groups ≡ true → settingsOf test n1 t now count groups ≡ true
 unfolding settingsOf
-settings-later test n1 t clock now count h e = rw (le-leb now clockMost h) (⊎-elim
+settings-later test n1 t clock now count groups h e = rw (le-leb now clockMost h) (⊎-elim
     (λ (f : leb clock clockMost ≡ true). rw f at e)
     (λ (f : leb clock clockMost ≡ false). absurd (false≢true (rw f at e)))
     (true-or-false (leb clock clockMost)))
@@ -176,8 +171,8 @@ ticked-valid w now v forth below =
     let l = w .senders in
     let k = w .count in
     let m = agedSenders (w .t) now l k in
-    both (settingsOf (w .test) (w .n1) (w .t) now k) (sendersWithin now m k)
-    (settings-later (w .test) (w .n1) (w .t) (w .clock) now k below (valid-settings w v))
+    both (settingsOf (w .test) (w .n1) (w .t) now k (w .groups)) (sendersWithin now m k)
+    (settings-later (w .test) (w .n1) (w .t) (w .clock) now k (w .groups) below (valid-settings w v))
     (senders-stay (w .clock) now l m k
     (λ j h. rw (aged-done (w .t) now l k j (valid-length w v) h) (aged-stays (w .t) (w .clock) now (getD l j noSender) forth))
     (valid-senders w v))

@@ -9,6 +9,7 @@ use lib.ListN.{length, getD, set, replicate, length-set, getD-replicate, List·g
 use lib.Seq.{getD-set-same, getD-set-other}
 use borrow.Author.Tests.{eqb-true}
 use Rattle.octets.specs.Split.{lt-or-le, eq-or-ne, cond-case}
+use Rattle.groups.specs.GroupsLaws.{kept-twice, kept-none}
 use Rattle.signal.specs.Alive.{bodyOf}
 use Rattle.header.specs.Head.{headOf}
 use Rattle.state.specs.declared.Address.{Address}
@@ -82,8 +83,12 @@ past-senders l (suc k) = past-set (newSenders l k) (suc k) k (newSender (given l
 pub zeroed-setup : (q : Setup) → Zeroed (setupAnswer q .state)
 unfolding setupAnswer setupState
 zeroed-setup q = cond-case (λ (x : Started). Zeroed (x .state)) (setupWithin q) _ _
-    (λ e. record { sender-zero = λ k h. zero-senders (q .senders) (q .count) k; past-zero = past-senders (q .senders) (q .count) })
-    (λ e. record { sender-zero = λ k h. absurd (omega arith); past-zero = past-empty })
+    (λ e. record {
+      groups-zero = kept-twice (q .groups);
+      sender-zero = λ k h. zero-senders (q .senders) (q .count) k;
+      past-zero = past-senders (q .senders) (q .count);
+    })
+    (λ e. record { groups-zero = kept-none; sender-zero = λ k h. absurd (omega arith); past-zero = past-empty })
 
 -- The calls.
 
@@ -98,6 +103,7 @@ module _ (w : Receiver) (z : Zeroed w) where
   zeroed-changed : (f : Sender → Sender) → ChangesSeen f → (i : ℕ) → i < w .count → Zeroed (withSender w i (f (senderAt w i)))
   unfolding withSender
   zeroed-changed f law i h = record {
+    groups-zero = z .groups-zero;
     sender-zero = λ k q. zero-set (w .senders) i (f (senderAt w i)) (changes-zero f law (senderAt w i) (zeroed-all i)) zeroed-all k;
     past-zero = past-set (w .senders) (w .count) i (f (senderAt w i)) h (z .past-zero);
   }
@@ -132,6 +138,7 @@ module _ (w : Receiver) (z : Zeroed w) where
   unfolding clockAnswer ticked notTicked
   zeroed-clock now = cond-case (λ (x : Ticked). Zeroed (x .state)) (eqb (first (clockRows w now)) 0) _ _
       (λ e. record {
+        groups-zero = z .groups-zero;
         sender-zero = λ k h. zero-aged (w .t) now (w .count) k;
         past-zero = λ k h. aged-later (w .t) now (w .senders) (w .count) k h ∙ z .past-zero k h;
       })

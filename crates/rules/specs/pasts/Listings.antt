@@ -10,6 +10,7 @@ use Rattle.header.specs.declared.Given.{Given}
 use Rattle.header.specs.Head.{header}
 use Rattle.header.specs.Places.{Field, place}
 use Rattle.header.specs.Places.Field.{hType, domain, dataField, inqId, ver as VER, gtid, pver, fui}
+use Rattle.groups.specs.Groups.{noGroups}
 use Rattle.signal.specs.AlivePlaces.{alivePlace}
 use Rattle.signal.specs.AlivePlaces.AliveField.{alTmOut, alMode, alProtocol, alVer}
 use Rattle.state.specs.declared.Address.{Address}
@@ -96,10 +97,10 @@ abbrev pub address : (field node : ℕ) → Address
 address field node = record { field = record { 0 = field }; node = record { 0 = node } }
 
 abbrev pub table : ℕ → List Address → Setup
-table count senders = record { mode = 0; n1 = 16; t = 15000; count = count; senders = senders }
+table count senders = record { mode = 0; n1 = 16; t = 15000; count = count; senders = senders; groups = noGroups }
 
 abbrev pub one : (mode n1 t : ℕ) → Setup
-one mode n1 t = record { mode = mode; n1 = n1; t = t; count = 1; senders = address 1 7 ∷ [] }
+one mode n1 t = record { mode = mode; n1 = n1; t = t; count = 1; senders = address 1 7 ∷ []; groups = noGroups }
 
 -- "setup online, N1 16, T 15000, sender field 1 node 7"
 abbrev pub raft : Setup

@@ -12,11 +12,14 @@ returns : tie.Need-returns
 unfolding settled
 returns c = rw (c .before .empty .ensures, not-true (c .before .before .args .within) (c .if1 .taken))
 
+kept-requires : tie.Need-kept-requires
+kept-requires c κs = search needs
+
 returns-2 : tie.Need-returns-2
 unfolding settled
 returns-2 c =
-    let left = c .before in
-    rw (left .before .empty .ensures, not-false (left .before .before .args .within) (left .if1 .left))
+    let left = c .before .before .before in
+    rw (left .before .empty .ensures, c .kept .ensures, not-false (left .before .before .args .within) (left .if1 .left))
 
 pub settled-spec : {M : Type 1} → statement M
-settled-spec = tie.close (tie.spec empty-requires returns returns-2)
+settled-spec = tie.close (tie.spec empty-requires returns kept-requires returns-2)

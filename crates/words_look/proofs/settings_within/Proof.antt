@@ -31,11 +31,14 @@ at-requires-3 c κs = search needs
 at-requires-4 : tie.Need-at-requires-4
 at-requires-4 c κs = search needs
 
+at-requires-5 : tie.Need-at-requires-5
+at-requires-5 c κs = search needs
+
 returns-3 : tie.Need-returns-3
 returns-3 c =
-    let one = c .before .before .before .before in
+    let one = c .before .before .before .before .before in
     let each = one .before .before .each-setting in
-    rw (settings-tests, sym (each .ensures), not-false (each .result) (one .before .if1 .left), sym (one .at .ensures), le-ltb _ _ (c .before .before .before .if2 .left), c .at4 .ensures, c .before .at3 .ensures, c .before .before .at2 .ensures)
+    rw (settings-tests, sym (each .ensures), not-false (each .result) (one .before .if1 .left), sym (one .at .ensures), le-ltb _ _ (c .before .before .before .before .if2 .left), c .at5 .ensures, c .before .at4 .ensures, c .before .before .at3 .ensures, c .before .before .before .at2 .ensures)
 
 pub settings-within-spec : {M : Type 1} → statement M
 settings-within-spec =
@@ -48,4 +51,5 @@ settings-within-spec =
     at-requires-2
     at-requires-3
     at-requires-4
+    at-requires-5
     returns-3)

@@ -7,18 +7,21 @@ use lib.Count.{ones}
 use lib.Dec.{eqb, leb, ltb}
 use lib.ListN.{length}
 use Rattle.header.specs.Codes.{isUser}
+use Rattle.groups.specs.Groups.{groupsWithin}
 use Rattle.cut.specs.Possible.{severalPossible}
 use Rattle.map.specs.Map.{isEmpty, isFull, markedPast}
 use Rattle.state.specs.Limits.{isN1, isDropTime, clockMost, messageWithin, senderWithin, newAmong, addressAt, settingsWithin}
 use Rattle.state.specs.State.{sendersMost}
 use Rattle.words.specs.declared.Record.{Record}
-use Rattle.words.specs.Words.{wordsMost, word, half, flag, messageIn, senderOf, fits, recordAt, sendersIn, stateIn}
+use Rattle.words.specs.Words.{wordsMost, word, groupsIn, half, flag, messageIn, senderOf, fits, recordAt, sendersIn, stateIn}
 
 -- ---- the settings
 
 -- Each by itself, the test flag too.
 unfoldable pub eachSetting : List ℕ → Bool
-eachSetting l = leb (word l 0) 1 && (leb (word l 3) clockMost && leb (word l 4) sendersMost && isN1 (word l 1) && isDropTime (word l 2))
+eachSetting l =
+    leb (word l 0) 1
+    && (leb (word l 3) clockMost && leb (word l 4) sendersMost && isN1 (word l 1) && isDropTime (word l 2) && groupsWithin (groupsIn (word l 5) (word l 6)))
 
 unfoldable pub settingsFit : List ℕ → Bool
 settingsFit l = leb (word l 0) 1 && settingsWithin (stateIn l)

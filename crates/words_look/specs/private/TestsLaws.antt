@@ -14,6 +14,7 @@ use borrow.Author.Tests.{leb-true, le-leb, lt-leb, lt-ltb, le-ltb, eqb-true, eq-
 use Rattle.octets.specs.Split.{lt-or-le, same-test, both, and-left, and-right, or-left, or-right, either}
 use Rattle.ring.specs.Ring.{M, isNumber}
 use Rattle.header.specs.Codes.{isUser}
+use Rattle.groups.specs.Groups.{groupsMost, groupsWithin}
 use Rattle.cut.specs.Possible.{severalPossible}
 use Rattle.map.specs.Map.{isEmpty, isFull, markedPast}
 use Rattle.state.specs.Key.{keyOf, Narrow, newKey}
@@ -22,7 +23,7 @@ use Rattle.state.specs.Limits.{isAddress, isN1, isDropTime, clockMost, lastWith
 use Rattle.state.specs.State.{sendersMost}
 use Rattle.state.specs.WithinLaws.{sender-facts}
 use Rattle.words.specs.declared.Record.{Record}
-use Rattle.words.specs.Words.{place, each, wordsMost, word, half, recordIn, recordAt, addressIn, lastIn, messageIn, flag, senderOf, fits, sendersIn, stateIn, fitTo, isState}
+use Rattle.words.specs.Words.{place, each, wordsMost, word, groupsIn, half, recordIn, recordAt, addressIn, lastIn, messageIn, flag, senderOf, fits, sendersIn, stateIn, fitTo, isState}
 use Rattle.words.specs.StateLaws.{state-facts, state-of, sender-in}
 use Rattle.words.specs.WrittenLaws.{part-in}
 use Rattle.words_look.specs.Look.{isHeld}
@@ -59,9 +60,17 @@ module _ (f : ℕ → Bool) where
 -- ---- the settings
 
 -- Each by itself, and "an empty state": of the states without senders only that one.
-pub settings-tests : (l : List ℕ) → settingsFit l ≡ eachSetting l && (ltb 0 (word l 4) || (not (flag (word l 0)) && eqb (word l 1) 1 && eqb (word l 2) 1))
+pub settings-tests : (l : List ℕ) → settingsFit l ≡ eachSetting l && (ltb 0 (word l 4) || (not (flag (word l 0)) && eqb (word l 1) 1 && eqb (word l 2) 1 && eqb (word l 5) 0))
 unfolding settingsFit settingsOf eachSetting
-settings-tests l = sym (and-assoc (leb (word l 0) 1) (leb (word l 3) clockMost && leb (word l 4) sendersMost && isN1 (word l 1) && isDropTime (word l 2)) _)
+settings-tests l = sym (and-assoc (leb (word l 0) 1) (leb (word l 3) clockMost && leb (word l 4) sendersMost && isN1 (word l 1) && isDropTime (word l 2) && groupsWithin (groupsIn (word l 5) (word l 6))) _)
+
+-- No more groups than there may be are counted in an octet.
+pub groups-many : (l : List ℕ) → groupsMost < word l 5 → false ≡ groupsWithin (groupsIn (word l 5) (word l 6))
+unfolding groupsWithin
+groups-many l many = rw (lt-leb (word l 5) groupsMost many)
+
+pub groups-few : (l : List ℕ) → word l 5 ≤ groupsMost → groupsIn (word l 5 % 256) (word l 6) ≡ groupsIn (word l 5) (word l 6)
+groups-few l few = ap (λ (k : ℕ). groupsIn k (word l 6)) (mod-eq-of-lt (omega arith))
 
 -- ---- one sender's words
 
@@ -160,7 +169,9 @@ settings-count l e =
     let a2 = leb (word l 4) sendersMost in
     let a3 = isN1 (word l 1) in
     let a4 = isDropTime (word l 2) in
-    let e4 = and-left (a1 && a2 && a3 && a4) _ (and-right (leb (word l 0) 1) (settingsWithin (stateIn l)) e) in
+    let a5 = groupsWithin (groupsIn (word l 5) (word l 6)) in
+    let e5 = and-left (a1 && a2 && a3 && a4 && a5) _ (and-right (leb (word l 0) 1) (settingsWithin (stateIn l)) e) in
+    let e4 = and-left (a1 && a2 && a3 && a4) a5 e5 in
     let e2 = and-left (a1 && a2) a3 (and-left (a1 && a2 && a3) a4 e4) in
     leb-true (word l 4) sendersMost (and-right a1 a2 e2)
 

@@ -1,5 +1,6 @@
 -- What the listings are computed with. Nothing is said here, and nothing proved.
 use mathlib.Core.Bool.{Bool}
+use Rattle.octets.specs.FirstPlace.{firstPlace}
 use Rattle.octets.specs.Number.{number, octets}
 use Rattle.octets.specs.Run.{run, laid}
 use Rattle.ring.specs.Check.{check, rule4}
@@ -7,6 +8,7 @@ use Rattle.ring.specs.Ring.{remainder, newer}
 use Rattle.header.specs.Codes.{codeOf}
 use Rattle.header.specs.Head.{header, headOf, isFixed}
 use Rattle.header.specs.Layout.{layout, tabulate, octetOf}
+use Rattle.groups.specs.Groups.{eachGroup, groupsWithin, keptAt, keptList}
 use Rattle.signal.specs.Alive.{bodyOf, isBody}
 use Rattle.fault.specs.Bits.{noneAbove}
 use Rattle.fault.specs.Places.{errorsFrom}
@@ -36,7 +38,7 @@ unfolding
     number octets run laid check rule4 remainder newer codeOf header headOf isFixed layout tabulate octetOf bodyOf isBody
     unit frontPossible lastPossible severalPossible possible bit holdsAll marked lowest
     lastWithin messageWithin senderWithin newAmong addressesWithin sendersWithin settingsOf valid firstWhere
-    setupWithin newSenders setupState setupAnswer
+    setupWithin newSenders setupState setupAnswer firstPlace eachGroup groupsWithin keptAt keptList
     first headWithin messageRows messageAnswer taken refused withSender messageStorage storageAfter storedPart
     senderRows admitted rejoins sameCut mapAfter keptAfter fills droppedBy senderAfter heldAfter
     aliveHeadWithin aliveWithin faultWithin isSection section? decide judged noneAbove areErrors errorsFrom aliveRows heardBy aliveAnswer
