@@ -22,11 +22,14 @@ extern "C" {
 #endif
 
 enum {
-    ADP_STATE_WORDS = 165, /* words of 64 bits that a state has */
+    ADP_STATE_WORDS = 167, /* words of 64 bits that a state has */
     ADP_SENDERS = 16,      /* the most senders */
+    ADP_GROUPS = 8,        /* the most groups */
+    ADP_PRIORITIES = 8,    /* entries of each sender and group in the tables of adp_multicast */
     ADP_AREA = 16384,      /* octets of storage for each sender, and the most octets of a message */
     ADP_HEADER = 64,       /* octets before a piece in its PDU */
-    ADP_LONGEST = 1460,    /* the most octets of a message's PDU */
+    ADP_LONGEST = 1460,    /* the most octets of a message's PDU, */
+    ADP_LONGEST_GROUP = 1472, /* and of one to a group */
     ADP_ALIVE = 128,       /* octets before the fault section in an alive signal's PDU */
     ADP_LONGEST_ALIVE = 1472,
     ADP_LONGEST_FAULT = 1344, /* the most octets of a fault section */
@@ -55,7 +58,10 @@ enum {
     ADP_BAD_ALIVE = 22,   /* an alive signal whose ML, CBN, TBN, group or body is wrong */
     ADP_BAD_PIECE = 23,   /* cutter: length, unit, piece number or a header value outside limits, or the buffer short;
                            * or a buffer too short for a fault section */
-    ADP_BAD_FAULT = 24    /* octets that are no fault section, or parts of which none can be written */
+    ADP_BAD_FAULT = 24,   /* octets that are no fault section, or parts of which none can be written */
+    ADP_NO_GROUP = 25,    /* group not registered */
+    ADP_BAD_TABLES = 26   /* a table not of senders × groups × ADP_PRIORITIES entries, or anywhere in the two a number
+                           * above 2,147,483,647, or 0 under a version not 0 */
 };
 
 /* What the number check says of a delivered message. */
@@ -70,12 +76,19 @@ struct adp_address {
     uint16_t node;
 };
 
+/* Groups: 1 to 255 each, none twice; places past the count are not looked at. */
+struct adp_groups {
+    uint8_t count; /* 0 to 8 */
+    uint8_t list[ADP_GROUPS];
+};
+
 struct adp_settings {
     uint8_t mode;  /* 0 online, 1 test */
     uint16_t n1;   /* 1 to 1,024: how far back a number is a repeat */
     uint32_t t;    /* 1 to 600,000: the age in ms at which an open message is dropped */
     uint8_t count; /* 1 to 16 senders, no pair twice; places past the count are not looked at */
     struct adp_address senders[ADP_SENDERS];
+    struct adp_groups groups;
 };
 
 /* In this answer and the three below it, what says nothing is 0: on a refusal all but the number; slice, start and
@@ -150,6 +163,14 @@ struct adp_answer adp_message(uint64_t *state, size_t words, uint8_t *storage, s
 /* The same, and counts its answer: tally[0] those of 0 and 1, tally[1] refusals, each stopping at 4,294,967,295. */
 struct adp_answer adp_message_tallied(uint64_t *state, size_t words, uint8_t *storage, size_t room,
                                       const uint8_t *packet, size_t size, uint32_t *tally);
+
+/* Takes a PDU that came to a group, whose number the receiving port says: a message of one piece, delivered or refused,
+ * from the packet; nothing is held or dropped, and the state stays. `versions` and `numbers` hold what was last delivered,
+ * for each sender, group and priority, at (sender × groups + group) × ADP_PRIORITIES + PRI, all from 0 and in the order
+ * of the settings. Both begin at 0; between calls the caller leaves them, and their state's settings, as they are. */
+struct adp_answer adp_multicast(const uint64_t *state, size_t words, uint32_t *versions, size_t version_entries,
+                                uint32_t *numbers, size_t number_entries, uint8_t group, const uint8_t *packet,
+                                size_t size);
 
 /* Takes an alive signal's PDU. ADP_DONE says that it was taken, not that its sender is alive: by al_mode 1 the sender
  * is alive, by 2 and 3 it is dead. Behind its first ADP_ALIVE octets stands nothing, or a fault section to the end;

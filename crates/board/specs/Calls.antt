@@ -8,6 +8,7 @@ use lib.ListN.{length, set}
 use Rattle.header.specs.Places.{headerSize}
 use Rattle.answers.specs.declared.Answer.{Answer}
 use Rattle.answers.specs.declared.Dropped.{Dropped}
+use Rattle.answers.specs.declared.GroupAnswer.{GroupAnswer}
 use Rattle.answers.specs.declared.Outcome.{Outcome}
 use Rattle.answers.specs.declared.Outcome.the-variants.{Refused}
 use Rattle.answers.specs.declared.Setup.{Setup}
@@ -22,9 +23,11 @@ use Rattle.fault.specs.declared.writing.Writing.{Writing}
 use Rattle.fault.specs.Places.{countAt}
 use Rattle.fault.specs.Reading.{optionsOf}
 use Rattle.fault.specs.Writing.{writingTold}
+use Rattle.rules.specs.calls.Admit.{noneDropped}
 use Rattle.rules.specs.calls.Alive.{aliveAnswer}
 use Rattle.rules.specs.calls.Clock.{clockAnswer}
 use Rattle.rules.specs.calls.Message.{messageAnswer, messageStorage}
+use Rattle.rules.specs.calls.Multicast.{Tables, multicastAnswer, multicastTables}
 use Rattle.rules.specs.calls.Question.{questionAnswer}
 use Rattle.rules.specs.calls.Setup.{setupAnswer}
 use Rattle.state.specs.Held.{heldAt}
@@ -101,6 +104,18 @@ outcomeFor l room packet = cond (isState l) (messageAnswer (stateIn l) room pack
 
 unfoldable pub storageFor : List ℕ → List ℕ → List ℕ → List ℕ
 storageFor l storage packet = cond (isState l) (messageStorage (stateIn l) storage packet) storage
+
+-- ---- the multicast call
+
+-- In the numbers and values of a message call's answer: nothing is held for it, and nothing dropped.
+abbrev pub groupToldOf : GroupAnswer → ℕ → Told
+groupToldOf a size = inNumbers (a .outcome) 0 noneDropped (a .lies) size
+
+unfoldable pub multicastFor : List ℕ → Tables → ℕ → List ℕ → Told
+multicastFor l t g packet = cond (isState l) (groupToldOf (multicastAnswer (stateIn l) t g packet) (length packet)) (refusedWith 9)
+
+unfoldable pub tablesFor : List ℕ → Tables → ℕ → List ℕ → Tables
+tablesFor l t g packet = cond (isState l) (multicastTables (stateIn l) t g packet) t
 
 -- ---- the alive call
 

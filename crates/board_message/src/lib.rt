@@ -103,7 +103,7 @@ fn refused(number: u8) -> Told
 }
 
 // An answer in numbers, of a packet of so many octets.
-fn in_numbers(outcome: Outcome, held: u8, dropped: Dropped, lies: Where, size: usize) -> Told
+pub fn in_numbers(outcome: Outcome, held: u8, dropped: Dropped, lies: Where, size: usize) -> Told
     ensures { λ r. ⌜ r ≡ inNumbers outcome held dropped lies size ⌝ }
 {
     Told {

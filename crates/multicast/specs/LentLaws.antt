@@ -145,3 +145,11 @@ module _ (w : Receiver) (t : Tables) (g : ℕ) (packet : List ℕ) (h : Head) (l
     rw handed (ap groupAnswer (left .0 ∙ same-outcome)),
     (left .1 .0 ∙ ap (λ (x : Tables). x .versions) same-tables, left .1 .1 ∙ ap (λ (x : Tables). x .numbers) same-tables),
   )
+
+-- Of a state outside its limits nothing is looked at, and nothing changes.
+pub left-outside : (s : Listener) (t : Tables) (g : ℕ) (packet : List ℕ) (h : Head) → s .valid ≡ false → (o : Outcome) (versions numbers : List ℕ)
+    → Left s t g packet h o versions numbers → (o ≡ Refused 9) × (versions ≡ t .versions) × (numbers ≡ t .numbers)
+unfolding castOutcome keptBy
+left-outside s t g packet h outside o versions numbers left =
+    let nine = listening-nine s t g packet h outside in
+    (left .0 ∙ rw nine, left .1 .0 ∙ rw nine, left .1 .1 ∙ rw nine)

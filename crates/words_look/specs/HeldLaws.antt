@@ -10,6 +10,7 @@ use lib.Dec.{leb}
 use borrow.Author.Tests.{leb-true}
 use Rattle.octets.specs.Split.{both, and-left, and-right}
 use Rattle.groups.specs.Groups.{groupsWithin}
+use Rattle.groups.specs.GroupsLaws.{within-few}
 use Rattle.state.specs.declared.Address.{Address}
 use Rattle.state.specs.declared.Look.{Look}
 use Rattle.state.specs.Limits.{clockMost, isN1, isDropTime, senderWithin, settingsOf, valid}
@@ -55,6 +56,14 @@ n1-octets l e =
     let e4 = and-left (a1 && a2 && a3 && a4) a5 (and-left (a1 && a2 && a3 && a4 && a5) _ (valid-settings (stateIn l) e)) in
     let n1 = and-right (a1 && a2) a3 (and-left (a1 && a2 && a3) a4 e4) in
     mod-eq-of-lt (omega (arith, leb-true (word l 1) 1024 (and-right (leb 1 (word l 1)) (leb (word l 1) 1024) n1)))
+
+-- The number of groups in an octet.
+pub groups-octet : (l : List ℕ) → valid (stateIn l) ≡ true → groupsIn (word l 5 % 256) (word l 6) ≡ groupsIn (word l 5) (word l 6)
+unfolding settingsOf
+groups-octet l e =
+    let a4 = leb (word l 3) clockMost && leb (word l 4) sendersMost && isN1 (word l 1) && isDropTime (word l 2) in
+    let within = and-right a4 (groupsWithin (groupsIn (word l 5) (word l 6))) (and-left (a4 && groupsWithin (groupsIn (word l 5) (word l 6))) _ (valid-settings (stateIn l) e)) in
+    ap (λ (k : ℕ). groupsIn k (word l 6)) (mod-eq-of-lt (omega (arith, within-few (groupsIn (word l 5) (word l 6)) within)))
 
 -- ---- the sender at a place
 

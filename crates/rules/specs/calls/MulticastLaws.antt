@@ -34,7 +34,7 @@ use Rattle.rules.specs.calls.First.{first}
 use Rattle.rules.specs.calls.FirstLaws.{first-here, first-none, first-neither, numbered}
 use Rattle.rules.specs.calls.Message.{headWithin}
 use Rattle.rules.specs.calls.MessageLaws.{or-false}
-use Rattle.rules.specs.calls.Multicast.{Tables, priorities, entriesOf, entryPlace, entryAt, withEntry, eachEntry, tablesWithin, mostCast, onePiece, placeFor, verdictIn, earlyCastRows, lateCastRows, castRows, listening, castOutcome, isKept, keptBy, castTables}
+use Rattle.rules.specs.calls.Multicast.{Tables, priorities, entriesOf, entryPlace, entryAt, withEntry, eachEntry, tablesWithin, mostCast, onePiece, placeFor, verdictIn, earlyCastRows, lateCastRows, castRows, listening, castOutcome, isKept, keptBy, castTables, groupAnswer, multicastAnswer, multicastTables}
 
 -- ---- what is known where no number applies
 
@@ -220,9 +220,16 @@ cast-within n s t g packet h ok = by (eqb (first (castRows s t g packet h)) 0) r
         (λ _. ok)
     by false e = ok
 
--- ---- what the code has in its locals
+-- ---- a state outside its limits
 
 -- Of a state outside its limits nothing else is looked at.
 pub listening-nine : (s : Listener) (t : Tables) (g : ℕ) (packet : List ℕ) (h : Head) → s .valid ≡ false → first (castRows s t g packet h) ≡ 9
 unfolding castRows
 listening-nine s t g packet h outside = first-here 9 (not (s .valid)) _ (rw outside)
+
+pub multicast-nine : (w : Receiver) (t : Tables) (g : ℕ) (packet : List ℕ) → valid w ≡ false
+    → (multicastAnswer w t g packet ≡ groupAnswer (Refused 9)) × (multicastTables w t g packet ≡ t)
+unfolding multicastAnswer multicastTables castOutcome keptBy
+multicast-nine w t g packet outside =
+    let nine = listening-nine (listening w (headOf packet)) t g packet (headOf packet) outside in
+    (rw nine, rw nine)
