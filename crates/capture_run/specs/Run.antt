@@ -125,7 +125,7 @@ lineTold (message packet) r =
     line.Message (messageTold (r .0) .outcome .number) (messageTold (r .0) .outcome .verdict) (messageTold (r .0) .held) (length (r .1))
 lineTold (alive packet) r = line.Alive (callNumber (r .call))
 lineTold (clock now) r = line.Clock (clockTold r .number) (clockTold r .dropped) (clockTold r .dead)
-lineTold (aside question) r = line.Nothing
+lineTold (aside call) r = line.Nothing
 
 -- The lines of a run without an accepted setup: "S answer" is "S 10" then.
 unfoldable pub linesTold : (fs : List Field) → Answers (callsIn fs) → List Line

@@ -12,6 +12,7 @@ use Rattle.octets.specs.Split.{and-left, and-right}
 use Rattle.octets.specs.Run.{run}
 use Rattle.ring.specs.Ring.{OnRing, isNumber}
 use Rattle.ring.specs.RingLaws.{on-ring}
+use Rattle.header.specs.declared.Cut.{Cut}
 use Rattle.header.specs.declared.Given.{Given}
 use Rattle.header.specs.Codes.{isDataField, isNode, isUser, isMode, isPri}
 use Rattle.header.specs.CodesLaws.{user-code}
@@ -20,7 +21,7 @@ use Rattle.header.specs.HeadLaws.{Fits, read-back, written-fixed, length-header
 use Rattle.header.specs.Places.{Field, place, headerSize}
 use Rattle.header.specs.Places.Field.{hType, ml, domain, dataField, node, da, vSeq, seq, mCtl, inqId, tcd, ver, gtid, mode, pver, pri, cbn, tbn, bsize, fui}
 use Rattle.cut.specs.Pieces.{pieceLength, piece}
-use Rattle.cut.specs.Cutter.{Words, headFor, pdu, givenWithin, pieceWithin, limitsWithin, cuts}
+use Rattle.cut.specs.Cutter.{Words, cutFor, headFor, pdu, givenWithin, pieceWithin, limitsWithin, cuts}
 use Rattle.cut.specs.CutterLaws.{Within, within-facts, within-short, within-count, length-piece}
 
 -- The header values within their limits.
@@ -54,6 +55,32 @@ given-facts g e =
       pri-most = leb-true (g .pri) 7 (and-right (a && b && d && f && h) k e);
     }
 
+-- Header values within their limits fit their places, with any cut that does.
+pub given-fits : (g : Given) → GivenWithin g → Words g → (k : Cut) → k .ml < 2 ^ 32 → k .cbn < 256 → k .tbn < 256 → k .bsize < 65536 → Fits (record { given = g; cut = k })
+given-fits g f words k long own all short = record { each = fit }
+  where
+    fit : (i : Field) → value (record { given = g; cut = k }) i < 256 ^ place i .1
+    fit hType = omega arith
+    fit ml = long
+    fit domain = omega arith
+    fit dataField = omega (arith, f .field-most)
+    fit node = omega (arith, f .node-most)
+    fit da = words .da-fits
+    fit vSeq = words .version-fits
+    fit seq = omega (arith, f .number-on .last)
+    fit mCtl = words .mctl-fits
+    fit inqId = omega arith
+    fit tcd = omega (arith, f .tcd-most)
+    fit ver = omega arith
+    fit gtid = omega arith
+    fit mode = omega (arith, f .mode-most)
+    fit pver = omega arith
+    fit pri = omega (arith, f .pri-most)
+    fit cbn = own
+    fit tbn = all
+    fit bsize = short
+    fit fui = omega arith
+
 module _ (g : Given) (m : List ℕ) (u c room : ℕ) (yes : cuts g m u c room ≡ true) where
   limits : limitsWithin g (length m) u c ≡ true
   unfolding cuts
@@ -70,35 +97,10 @@ module _ (g : Given) (m : List ℕ) (u c room : ℕ) (yes : cuts g m u c room �
   cuts-room = leb-true (headerSize + pieceLength (length m) u c) room (and-right (limitsWithin g (length m) u c) (leb (headerSize + pieceLength (length m) u c) room) yes)
 
   head-fits : Words g → Fits (headFor g m u c)
-  head-fits words = record { each = fit }
-    where
-      f : GivenWithin g
-      f = cuts-given
-
-      w : Within (length m) u c
-      w = cuts-within
-
-      fit : (i : Field) → value (headFor g m u c) i < 256 ^ place i .1
-      fit hType = omega arith
-      fit ml = omega (arith, w .big)
-      fit domain = omega arith
-      fit dataField = omega (arith, f .field-most)
-      fit node = omega (arith, f .node-most)
-      fit da = words .da-fits
-      fit vSeq = words .version-fits
-      fit seq = omega (arith, f .number-on .last)
-      fit mCtl = words .mctl-fits
-      fit inqId = omega arith
-      fit tcd = omega (arith, f .tcd-most)
-      fit ver = omega arith
-      fit gtid = omega arith
-      fit mode = omega (arith, f .mode-most)
-      fit pver = omega arith
-      fit pri = omega (arith, f .pri-most)
-      fit cbn = omega (arith, w .last, within-count (length m) u c w)
-      fit tbn = omega (arith, within-count (length m) u c w)
-      fit bsize = omega (arith, within-short (length m) u c w)
-      fit fui = omega arith
+  head-fits words =
+      let w = cuts-within in
+      given-fits g cuts-given words (cutFor (length m) u c) (omega (arith, w .big)) (omega (arith, w .last, within-count (length m) u c w))
+      (omega (arith, within-count (length m) u c w)) (omega (arith, within-short (length m) u c w))
 
   -- The header reads back, whatever stands behind the PDU,
   pub pdu-head : (t : List ℕ) → Words g → headOf (pdu g m u c ++ t) ≡ headFor g m u c

@@ -9,8 +9,8 @@ use native.Mathlib.Omega.{arith}
 use lib.Dec.{eqb, leb}
 use lib.ListN.{length, getD, length-set, List·getD-eq-default}
 use lib.Seq.{getD-set-same, getD-set-other}
-use borrow.Author.Tests.{leb-true, lt-ltb, le-ltb}
-use Rattle.octets.specs.FirstPlaceLaws.{place-same}
+use borrow.Author.Tests.{leb-true, lt-ltb, le-ltb, eqb-true, eq-eqb}
+use Rattle.octets.specs.FirstPlaceLaws.{place-same, place-holds, place-here}
 use Rattle.octets.specs.Split.{lt-or-le, eq-or-ne, true-or-false, and-left, and-right}
 use Rattle.groups.specs.declared.Group.{Group}
 use Rattle.groups.specs.declared.Groups.{Groups}
@@ -95,6 +95,9 @@ module _ (g h : Groups) (counts : g .count ≡ h .count) (same : (j : ℕ) → j
 pub kept-within : (g : Groups) → groupsWithin (kept g) ≡ groupsWithin g
 kept-within g = same-within (kept g) g refl (kept-number g)
 
+pub kept-place : (g : Groups) → g .count ≤ groupsMost → (x : ℕ) → placeOf (kept g) x ≡ placeOf g x
+kept-place g = same-place (kept g) g refl (kept-number g)
+
 pub within-few : (g : Groups) → groupsWithin g ≡ true → g .count ≤ groupsMost
 unfolding groupsWithin
 within-few g e = leb-true (g .count) groupsMost (and-left (leb (g .count) groupsMost) (eachGroup (numberAt g) (g .count)) e)
@@ -115,6 +118,29 @@ each-at f (suc k) e j less =
 pub within-each : (g : Groups) → groupsWithin g ≡ true → (j : ℕ) → j < g .count → isGroup (numberAt g j) ≡ true
 unfolding groupsWithin
 within-each g e = each-at (numberAt g) (g .count) (and-right (leb (g .count) groupsMost) (eachGroup (numberAt g) (g .count)) e)
+
+-- A registered group stands at its own place alone: none is named twice.
+each-new : (f : ℕ → ℕ) (k : ℕ) → eachGroup f k ≡ true → (j : ℕ) → j < k → placeAmong f j (f j) ≡ j
+unfolding eachGroup
+each-new f zero e j less = absurd (omega arith)
+each-new f (suc k) e j less =
+    let new = eqb (placeAmong f k (f k)) k in
+    ⊎-elim
+    (λ (q : j < k). each-new f k (and-left (eachGroup f k) (isGroup (f k) && new) e) j q)
+    (λ (q : k ≤ j).
+    let z : j ≡ k = omega arith in
+    rw z (eqb-true (placeAmong f k (f k)) k (and-right (isGroup (f k)) new (and-right (eachGroup f k) (isGroup (f k) && new) e))))
+    (lt-or-le j k)
+
+pub place-own : (g : Groups) → groupsWithin g ≡ true → (j : ℕ) → j < g .count → placeOf g (numberAt g j) ≡ j
+unfolding groupsWithin
+place-own g e j here =
+    let each = and-right (leb (g .count) groupsMost) (eachGroup (numberAt g) (g .count)) e in
+    place-here (λ i. eqb (numberAt g i) (numberAt g j)) j (each-new (numberAt g) (g .count) each j here) (eq-eqb (numberAt g j) (numberAt g j) refl) (g .count) here
+
+-- What stands at the place that is found is the group.
+pub place-number : (g : Groups) (x : ℕ) → placeOf g x < g .count → numberAt g (placeOf g x) ≡ x
+place-number g x here = eqb-true (numberAt g (placeOf g x)) x (place-holds (λ i. eqb (numberAt g i) x) (g .count) here)
 
 -- Two groups that keep the same stand at the same places, and are judged alike.
 module _ (g h : Groups) (same : kept g ≡ kept h) where

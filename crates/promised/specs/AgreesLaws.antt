@@ -11,25 +11,27 @@ use lib.ListN.{length, length-take}
 use lib.Seq.{getD-take}
 use Rattle.octets.specs.Split.{lt-or-le, true-or-false, never-both}
 use Rattle.header.specs.Codes.{within}
+use Rattle.groups.specs.Groups.{kept}
+use Rattle.groups.specs.GroupsLaws.{kept-none}
 use Rattle.state.specs.declared.Receiver.{Receiver}
 use Rattle.state.specs.declared.Sender.{Sender}
 use Rattle.state.specs.Limits.{given, addressAt, clockMost}
 use Rattle.state.specs.LimitsLaws.{addresses-few}
-use Rattle.state.specs.State.{noAddress, settingsFrom}
+use Rattle.state.specs.State.{noAddress, Settings, settingsFrom}
 use Rattle.answers.specs.declared.Setup.{Setup}
 use Rattle.rules.specs.calls.ChangesLaws.{message-only, alive-only}
 use Rattle.rules.specs.calls.Clock.{ticked, notTicked}
 use Rattle.rules.specs.calls.ClockLaws.{clock-back, clock-on}
 use Rattle.rules.specs.calls.Setup.{setupWithin, settingsBy, setupState, setupAnswer}
 use Rattle.rules.specs.calls.SetupLaws.{setup-facts}
-use Rattle.rules.specs.pasts.Past.{World, Event, message, alive, clock, aside, question, step, said, Start}
+use Rattle.rules.specs.pasts.Past.{World, Event, message, alive, clock, aside, step, said, Start}
 use Rattle.rules.specs.pasts.PastLaws.{Sound, start-sound, start-clock, start-sender, same-settings, same-count, step-sound}
 use Rattle.promised.specs.AlivePastLaws.{living}
 use Rattle.promised.specs.Judged.{isFrom}
 use Rattle.promised.specs.Log.{toldBy, Exchange, exchange, timeBy, timeOf, deliveries, lastOf, openOf, stampOf, lifeOf}
 use Rattle.promised.specs.KeptLaws.{TellsLog, open-each, log-step, LivesLog, life-log, clock-number, is-done}
 use Rattle.promised.specs.SafeLaws.{start-inv}
-use Rattle.promised.specs.Says.{sendersOf}
+use Rattle.promised.specs.Says.{sendersOf, groupsOf}
 use Rattle.promised.specs.View.{view}
 use Rattle.promised.specs.ViewLaws.{same-address, Registered}
 
@@ -37,6 +39,7 @@ pub record Agrees (q : Setup) (log : List Exchange) (w : World) : Type 0 where
   pub sound : Sound w
   pub count : w .state .count ≡ length (sendersOf q)
   pub settings : setupWithin q ≡ true → settingsFrom (w .state) ≡ settingsBy q
+  pub groups : w .state .groups ≡ kept (groupsOf q)
   pub address : (i : ℕ) → i < w .state .count → addressAt (w .state .senders) i ≡ given (sendersOf q) i
   pub time : w .state .clock ≡ timeOf log
   pub tells : (i : ℕ) → i < w .state .count → TellsLog (given (sendersOf q) i) i log w
@@ -71,12 +74,20 @@ module _ (q : Setup) where
   unfolding setupAnswer setupState
   start-settings e = rw e
 
+  start-groups : setupAnswer q .state .groups ≡ kept (groupsOf q)
+  unfolding setupAnswer setupState groupsOf
+  start-groups = ⊎-elim
+      (λ (e : setupWithin q ≡ true). rw e)
+      (λ (e : setupWithin q ≡ false). rw e (sym kept-none))
+      (true-or-false (setupWithin q))
+
 pub agrees-start : (w : World) (s : Start w) → Agrees (s .given) [] w
 unfolding timeOf lifeOf view lastOf deliveries openOf stampOf
 agrees-start w s = record {
   sound = start-sound w s;
   count = ap (λ (x : Receiver). x .count) (s .state) ∙ start-count (s .given);
   settings = λ e. ap settingsFrom (s .state) ∙ start-settings (s .given) e;
+  groups = ap (λ (x : Receiver). x .groups) (s .state) ∙ start-groups (s .given);
   address = λ i here. ap (λ (x : Sender). x .address) (start-sender w s i here) ∙ start-given (s .given) i (subst (λ (x : Receiver). i < x .count) (s .state) here);
   time = start-clock w s;
   tells = λ i here. new-tells i here;
@@ -113,7 +124,7 @@ module _ (q : Setup) (log : List Exchange) (w : World) (a : Agrees q log w) wher
       (λ (e : back ≡ true). unfold notTicked in rw (← clock-back (w .state) ms (a .sound .is-valid) e, e))
       (λ (e : back ≡ false). unfold ticked in rw (← clock-on (w .state) ms (a .sound .is-valid) e, e))
       (true-or-false back))
-  clock-step (aside question) = refl
+  clock-step (aside call) = refl
 
   pub agrees-step : (e : Event) → Agrees q (exchange e (toldBy e (said w e)) ∷ log) (step w e)
   unfolding timeOf
@@ -123,6 +134,7 @@ module _ (q : Setup) (log : List Exchange) (w : World) (a : Agrees q log w) wher
         sound = step-sound w e (a .sound);
         count = same-count w e ∙ a .count;
         settings = λ within. same-settings w e ∙ a .settings within;
+        groups = ap (λ (x : Settings). x .groups) (same-settings w e) ∙ a .groups;
         address = λ i less. same-address w (a .sound) i (here i less) e ∙ a .address i (here i less);
         time = clock-step e ∙ ap (λ (t : ℕ). timeBy t e (toldBy e (said w e))) (a .time);
         tells = λ i less. log-step (settingsFrom (w .state)) (given (sendersOf q) i) i w (agrees-place i (here i less)) log (a .tells i (here i less)) e;

@@ -27,7 +27,7 @@ use Rattle.rules.specs.calls.Clock.{drops, clockAnswer}
 use Rattle.rules.specs.calls.ClockLaws.{not-reported}
 use Rattle.rules.specs.calls.Setup.{setupWithin, settingsBy}
 use Rattle.rules.specs.calls.SetupLaws.{setup-facts}
-use Rattle.rules.specs.pasts.Past.{World, Event, message, alive, clock, aside, question, step, after, answerTo, partTo, said, answers}
+use Rattle.rules.specs.pasts.Past.{World, Event, message, alive, clock, aside, step, after, answerTo, partTo, said, answers}
 use Rattle.promised.specs.AgreesLaws.{Agrees, agrees-step}
 use Rattle.promised.specs.BetweenLaws.{between-by}
 use Rattle.promised.specs.Delivery.{Sent, count, Numbered, PieceOf, Brings, Came, nameIn, openFor, verdictFor, Allowed, Between, OnlyPieces, ElseRefused, May, Arrives, Once}
@@ -181,7 +181,7 @@ module _ (q : Setup) (m : Sent) (k : Cuttable m) (i : ℕ) (here : i < length (s
     way-step (alive p) f = on-step (λ d. C d ⊎ ⊥) (alive p) (λ x e. let z : _≡_ {A = ℕ} 0 1 = cc in absurd (omega arith)) (same-pieces (λ d. ⊥) (λ d x. x) (o .phase))
     way-step (clock ms) f = on-step (λ d. C d ⊎ ⊥) (clock ms) (λ x e. let z : _≡_ {A = ℕ} 0 1 = cc in absurd (omega arith))
         (phase-same m (lastIn last) C (λ d. C d ⊎ ⊥) (tickView g v ms .sender) (λ d x. inl x) (λ d x. ⊎-elim (λ y. y) (λ (y : ⊥). absurd y) x) (clock-call ms f))
-    way-step (aside question) f = on-step (λ d. C d ⊎ ⊥) (aside question) (λ x e. let z : _≡_ {A = ℕ} 0 1 = cc in absurd (omega arith)) (same-pieces (λ d. ⊥) (λ d x. x) (o .phase))
+    way-step (aside call) f = on-step (λ d. C d ⊎ ⊥) (aside call) (λ x e. let z : _≡_ {A = ℕ} 0 1 = cc in absurd (omega arith)) (same-pieces (λ d. ⊥) (λ d x. x) (o .phase))
 
   -- ---- the calls since the past
 

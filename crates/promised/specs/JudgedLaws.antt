@@ -32,6 +32,9 @@ outside-is least most packet =
 pub message-length : (packet : List ℕ) → lengthWrong (length packet) (headOf packet) ≡ not (hasLength 64 1460 packet)
 message-length packet = outside-is 64 1460 packet
 
+pub cast-length : (packet : List ℕ) → lengthOutside 64 1472 (length packet) (headOf packet) ≡ not (hasLength 64 1472 packet)
+cast-length packet = outside-is 64 1472 packet
+
 pub alive-length : (packet : List ℕ) → aliveLengthWrong (length packet) (headOf packet) ≡ not (hasLength 128 1472 packet)
 alive-length packet = outside-is 128 1472 packet
 

@@ -28,7 +28,7 @@ use Rattle.rules.specs.calls.ClockLaws.{clock-back, clock-on, map-bit}
 use Rattle.rules.specs.calls.First.{first}
 use Rattle.rules.specs.calls.FirstLaws.{above, first-given, given-above}
 use Rattle.rules.specs.calls.Message.{messageRows, messageNumber, messageAnswer, refused}
-use Rattle.rules.specs.pasts.Past.{World, Event, message, alive, clock, aside, question, step, answerTo, said}
+use Rattle.rules.specs.pasts.Past.{World, Event, message, alive, clock, aside, step, answerTo, said}
 use Rattle.promised.specs.Judged.{inOrder, isFrom, sentFrom}
 use Rattle.promised.specs.AlivePast.{isSignal}
 use Rattle.promised.specs.AlivePastLaws.{Being, living, being, senderBy, signal-own, signal-none, heeded-other, being-step}
@@ -169,7 +169,7 @@ module _ (g : Settings) (a : Address) (i : ℕ) (w : World) (r : Registered g a 
       (λ own zero. new p refl (from-accepted g a i w r p own (stored-none g a i w r log t p zero)) zero)
   open-each P old (alive p) new = old
   open-each P old (clock ms) new = clock-each P a (openOf a i log) old (eqb (bit i (clockAnswer (w .state) ms .dropped)) 1)
-  open-each P old (aside question) new = old
+  open-each P old (aside call) new = old
 
   pub log-step : (e : Event) → TellsLog a i (exchange e (toldBy e (said w e)) ∷ log) (step w e)
   log-step (message p) = log-message g a i w r log t p
@@ -187,7 +187,7 @@ module _ (g : Settings) (a : Address) (i : ℕ) (w : World) (r : Registered g a 
         ap (λ (x : Settings). x .t) (r .settings),
       )
       (after-clock (lastOf a (deliveries log)) (timeOf log) (openOf a i log) (stampOf a log) g (view w i) t ms)
-  log-step (aside question) = unfold deliveries timeOf openOf stampOf in rw (same-view (aside question) (unfold sees stepView in refl)) t
+  log-step (aside call) = unfold deliveries timeOf openOf stampOf in rw (same-view (aside call) (unfold sees stepView in refl)) t
 
 -- ---- who is alive
 
@@ -254,4 +254,4 @@ module _ (g : Settings) (a : Address) (i : ℕ) (w : World) (r : Registered g a 
       (λ (e : back ≡ true). rw e)
       (λ (e : back ≡ false). rw e (aged-log ms (lifeOf a i log)))
       (true-or-false back))
-  life-log (aside question) = kept-life (aside question) ∙ t
+  life-log (aside call) = kept-life (aside call) ∙ t

@@ -4,6 +4,8 @@
 pub mod Judged
 pub mod Log
 pub mod Says
+-- The tables of the groups, handed on through a past.
+pub mod HandedOn
 -- Nothing is delivered but a join of accepted pieces.
 pub mod Join
 -- A message is delivered at its last missing piece; each condition is needed.
@@ -26,7 +28,9 @@ pub mod KeptLaws
 pub mod AgreesLaws
 pub mod SaysLaws
 pub mod MessageSaysLaws
+pub mod CastLaws
 pub mod PastSaysLaws
+pub mod HandedOnLaws
 pub mod CameLaws
 pub mod CutPiecesLaws
 pub mod PieceLaws

@@ -22,7 +22,7 @@ use Rattle.answers.specs.declared.Setup.{Setup}
 use Rattle.answers.specs.Told.{leastRefusal, OutcomeTold, notDelivered, deliveredAs, MessageTold, messageTold}
 use Rattle.rules.specs.calls.Message.{messageNumber}
 use Rattle.rules.specs.calls.Setup.{settingsBy}
-use Rattle.rules.specs.pasts.Past.{World, Event, message, alive, clock, aside, question, step, answerTo, partTo, said, answers}
+use Rattle.rules.specs.pasts.Past.{World, Event, message, alive, clock, aside, step, answerTo, partTo, said, answers}
 use Rattle.promised.specs.AgreesLaws.{Agrees}
 use Rattle.promised.specs.BetweenLaws.{between-by}
 use Rattle.promised.specs.CameLaws.{one-applies}
@@ -168,8 +168,8 @@ module _ (q : Setup) (m : Sent) (k : Cuttable m) (i : ℕ) (here : i < length (s
         (true-or-false (isFrom (m .address) p))
     step-listed (alive p) f = same-listed m verdict done (alive p) ds ds refl (λ all d numbered. ⊎-elim (λ y. y) (λ (y : ⊥). absurd y) (came-more m d done (alive p) (all d numbered))) l
     step-listed (clock ms) f = same-listed m verdict done (clock ms) ds ds refl (λ all d numbered. ⊎-elim (λ y. y) (λ (y : ⊥). absurd y) (came-more m d done (clock ms) (all d numbered))) l
-    step-listed (aside question) f = same-listed m verdict done (aside question) ds ds refl
-        (λ all d numbered. ⊎-elim (λ y. y) (λ (y : ⊥). absurd y) (came-more m d done (aside question) (all d numbered))) l
+    step-listed (aside call) f = same-listed m verdict done (aside call) ds ds refl
+        (λ all d numbered. ⊎-elim (λ y. y) (λ (y : ⊥). absurd y) (came-more m d done (aside call) (all d numbered))) l
 
   -- ---- the calls since the past
 

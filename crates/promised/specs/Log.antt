@@ -14,23 +14,27 @@ use Rattle.state.specs.declared.Address.{Address}
 use Rattle.state.specs.Limits.{sameAddress}
 use Rattle.state.specs.Table.{source}
 use Rattle.promised.specs.Judged.{sentFrom}
-use Rattle.answers.specs.Told.{MessageTold, messageTold, callNumber, ClockTold, clockTold, QuestionTold, questionTold}
-use Rattle.rules.specs.pasts.Past.{Event, message, alive, clock, aside, question, Said, Answers}
+use Rattle.answers.specs.Told.{MessageTold, messageTold, GroupTold, groupTold, callNumber, ClockTold, clockTold, QuestionTold, questionTold}
+use Rattle.rules.specs.calls.Multicast.{Tables}
+use Rattle.rules.specs.pasts.Past.{Event, message, alive, clock, aside, question, multicast, Said, Answers}
 
 -- ---- a log
 
--- What a call is told: 01's number and values, and to a packet the octets that are handed over.
+-- What a call is told: 01's number and values, and to a packet the octets that are handed over; to one to a group, the two
+-- tables that are left, too.
 abbrev pub ToldOf : Event → Type 0
 ToldOf (message packet) = MessageTold × List ℕ
 ToldOf (alive packet) = ℕ
 ToldOf (clock ms) = ClockTold
 ToldOf (aside question) = QuestionTold
+ToldOf (aside (multicast t g packet)) = GroupTold × Tables × List ℕ
 
 abbrev pub toldBy : (e : Event) → Said e → ToldOf e
 toldBy (message packet) r = (messageTold (r .0), r .1)
 toldBy (alive packet) r = callNumber (r .call)
 toldBy (clock ms) r = clockTold r
 toldBy (aside question) r = questionTold r
+toldBy (aside (multicast t g packet)) r = (groupTold (r .0), r .1, r .2)
 
 -- A call, and what it was told.
 pub record Exchange : Type 0 where
@@ -103,6 +107,41 @@ deliveries (x ∷ before) = deliveredBy (x .call) (x .told) ++ deliveries before
 unfoldable pub lastOf : Address → List Delivery → Name
 lastOf a [] = noName
 lastOf a (d ∷ before) = cond (sameAddress a (d .sender) && not (eqb (d .verdict) 5)) (d .name) (lastOf a before)
+
+-- ---- what was delivered to groups
+
+-- What was delivered, of whom, to which group, with which priority and which verdict.
+pub record Cast : Type 0 where
+  pub sender : Address
+  pub group : ℕ
+  pub pri : ℕ
+  pub name : Name
+  pub verdict : ℕ
+
+-- "1 delivered"
+abbrev pub castBy : (e : Event) → ToldOf e → List Cast
+castBy (message packet) told = []
+castBy (alive packet) told = []
+castBy (clock ms) told = []
+castBy (aside question) told = []
+castBy (aside (multicast t g packet)) told =
+    cond (eqb (told .0 .outcome .number) 1)
+    (record { sender = source (headOf packet); group = g; pri = headOf packet .given .pri; name = nameOf packet; verdict = told .0 .outcome .verdict } ∷ [])
+    []
+
+-- All of them, the latest first.
+unfoldable pub casts : List Exchange → List Cast
+casts [] = []
+casts (x ∷ before) = castBy (x .call) (x .told) ++ casts before
+
+-- Whether it is of this sender, group and priority, and not unchecked.
+abbrev pub counts : Address → (group pri : ℕ) → Cast → Bool
+counts a g pri d = sameAddress a (d .sender) && eqb g (d .group) && eqb pri (d .pri) && not (eqb (d .verdict) 5)
+
+-- 02, Item 5: "The last version and number are kept for each sender, group and priority"; they began as `first`.
+unfoldable pub lastCast : Address → (group pri : ℕ) → (first : Name) → List Cast → Name
+lastCast a g pri first [] = first
+lastCast a g pri first (d ∷ before) = cond (counts a g pri d) (d .name) (lastCast a g pri first before)
 
 -- ---- what is open
 

@@ -145,7 +145,7 @@ module _ (g : Settings) (v : View) (p : List ℕ) where
 
 -- ---- what a packet of the sender's own leaves
 
-is-five : (v : Verdict) → eqb (verdictNumber v) 5 ≡ isUnchecked v
+pub is-five : (v : Verdict) → eqb (verdictNumber v) 5 ≡ isUnchecked v
 is-five Unchecked = refl
 is-five First = refl
 is-five Restart = refl

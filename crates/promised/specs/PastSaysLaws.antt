@@ -11,12 +11,13 @@ use Rattle.state.specs.declared.Sender.{Sender}
 use Rattle.state.specs.Limits.{given}
 use Rattle.state.specs.State.{senderAt}
 use Rattle.answers.specs.declared.Setup.{Setup}
-use Rattle.rules.specs.pasts.Past.{World, Event, message, alive, clock, aside, question, step, after, said, answers, Start}
+use Rattle.rules.specs.pasts.Past.{World, Event, message, alive, clock, aside, question, multicast, step, after, said, answers, Start}
 use Rattle.rules.specs.pasts.PastLaws.{after-count}
 use Rattle.promised.specs.AgreesLaws.{Agrees, agrees-start, agrees-step}
 use Rattle.promised.specs.AlivePast.{AliveBy}
 use Rattle.promised.specs.AlivePastLaws.{alive-after, after-alive}
 use Rattle.promised.specs.Log.{ToldOf, toldBy, Exchange, exchange, logged, lifeOf}
+use Rattle.promised.specs.CastLaws.{cast-says}
 use Rattle.promised.specs.MessageSaysLaws.{message-says}
 use Rattle.promised.specs.Says.{sendersOf, says, logOf}
 use Rattle.promised.specs.SaysLaws.{alive-says, clock-says, question-says}
@@ -27,6 +28,7 @@ says-is q log w a (message packet) = message-says q log w a packet
 says-is q log w a (alive packet) = alive-says q log w a packet
 says-is q log w a (clock ms) = clock-says q log w a ms
 says-is q log w a (aside question) = question-says q log w a
+says-is q log w a (aside (multicast t g packet)) = cast-says q log w a t g packet
 
 pub agrees-after : (q : Setup) (log : List Exchange) (w : World) → Agrees q log w → (es : List Event) → Agrees q (logged log es (answers w es)) (after w es)
 unfolding logged answers after

@@ -4,22 +4,26 @@ use Prim.Native.Nat.{ℕ, zero, suc, _+_, _-_, _*_, _^_}
 use mathlib.Core.Bool.{Bool, true, false, not, cond, _&&_, _||_}
 use mathlib.Core.List.{List, [], _∷_}
 use lib.Dec.{eqb, leb, ltb}
-use lib.ListN.{length, take}
+use lib.ListN.{length, take, drop}
 use Rattle.octets.specs.FirstPlace.{firstPlace}
 use Rattle.ring.specs.declared.Verdict.{Verdict}
-use Rattle.ring.specs.Check.{check, isRepeat}
+use Rattle.ring.specs.Check.{check, isRepeat, isUnchecked}
 use Rattle.ring.specs.Ring.{newer}
 use Rattle.header.specs.Head.{headOf}
+use Rattle.groups.specs.declared.Groups.{Groups}
+use Rattle.groups.specs.Groups as groups
+use Rattle.groups.specs.Groups.{noGroups}
 use Rattle.cut.specs.Pieces.{joined}
 use Rattle.cut.specs.Possible.{possible}
 use Rattle.state.specs.declared.Address.{Address}
 use Rattle.state.specs.Limits.{sameAddress, given}
 use Rattle.state.specs.Table.{source}
 use Rattle.answers.specs.declared.Setup.{Setup}
-use Rattle.answers.specs.Told.{notDelivered, deliveredAs, WhereTold, nothingHanded, MessageTold, messageRefused, ClockTold, clockRefused, QuestionTold, noneOpen}
+use Rattle.answers.specs.Told.{notDelivered, deliveredAs, WhereTold, nothingHanded, MessageTold, messageRefused, GroupTold, groupRefused, ClockTold, clockRefused, QuestionTold, noneOpen}
 use Rattle.rules.specs.calls.First.{Row, row, first}
+use Rattle.rules.specs.calls.Multicast.{Tables, entryPlace, entryAt, withEntry, tablesWithin, onePiece}
 use Rattle.rules.specs.calls.Setup.{setupWithin}
-use Rattle.rules.specs.pasts.Past.{Event, message, alive, clock, aside, question}
+use Rattle.rules.specs.pasts.Past.{Event, message, alive, clock, aside, question, multicast}
 use Rattle.promised.specs.Join.{kinOf, numberIn, behind}
 use Rattle.promised.specs.Judged.{hasLength, isMessage, isAlive, hasBody, hasSection}
 use Rattle.promised.specs.Log.{ToldOf, Exchange, exchange, Name, noName, nameOf, timeOf, deliveries, lastOf, sameMessage, acceptedWith, openOf, isOpen, stampOf, Life, lifeOf}
@@ -134,6 +138,54 @@ messageSays q log packet =
     let i = placeOf (sendersOf q) a in
     messageBy q i (verdictAfter q (lastOf a (deliveries log)) (nameOf packet)) (openOf a i log) packet
 
+-- ---- the multicast call
+
+-- "0 to 8 registered groups"; none where setup is refused.
+unfoldable pub groupsOf : Setup → Groups
+groupsOf q = cond (setupWithin q) (q .groups) noGroups
+
+-- Both tables are "senders × groups × 8 long", and no entry is outside its limits.
+abbrev pub hasTables : Setup → Tables → Bool
+hasTables q t = tablesWithin (length (sendersOf q) * groupsOf q .count * 8) t
+
+-- 26, 12 to 14, 25 and 15 to 17, where `right` says whether 26 passes the tables and `verdict` what the number check says.
+abbrev pub rowsCast : Setup → Bool → Verdict → ℕ → List ℕ → List Row
+rowsCast q right verdict g packet =
+    row 26 (not right)
+    -- "a PDU may be 1,472 octets here"
+    ∷ row 12 (not (hasLength 64 1472 packet))
+    ∷ row 13 (not (isMessage packet))
+    ∷ row 14 (leb (length (sendersOf q)) (placeOf (sendersOf q) (source (headOf packet))))
+    -- "25 group not registered, after 14"
+    ∷ row 25 (leb (groupsOf q .count) (groups.placeOf (groupsOf q) g))
+    ∷ row 15 (eqb (headOf packet .given .mode) 1 && eqb (q .mode) 0)
+    -- "16 unless CBN = TBN = 1 and p = n"
+    ∷ row 16 (not (onePiece (headOf packet .cut)))
+    ∷ row 17 (isRepeat verdict)
+    ∷ []
+
+-- The entry of the packet's sender, group and priority, and what stands there.
+abbrev pub entryFor : Setup → ℕ → List ℕ → ℕ
+entryFor q g packet = entryPlace (groupsOf q .count) (placeOf (sendersOf q) (source (headOf packet))) (groups.placeOf (groupsOf q) g) (headOf packet .given .pri)
+
+abbrev pub nameAt : Tables → ℕ → Name
+nameAt t k = record { version = entryAt t k .version; number = entryAt t k .number }
+
+-- "The message is handed over as the part of the packet behind its header"; "A delivery that is not unchecked writes its version
+-- and number into its one entry; nothing else of state, tables or storage changes."
+abbrev pub castBy : Setup → Bool → Verdict → Tables → ℕ → List ℕ → GroupTold × Tables × List ℕ
+castBy q right verdict t g packet =
+    let k = first (rowsCast q right verdict g packet) in
+    cond (eqb k 0) (
+      record { outcome = deliveredAs verdict; lies = record { slice = 1; start = 0; length = 0 } },
+      cond (isUnchecked verdict) t (withEntry t (entryFor q g packet) (nameOf packet .version) (nameOf packet .number)),
+      drop 64 packet,
+    ) (groupRefused k, t, [])
+
+-- Whatever tables are lent.
+unfoldable pub castSays : Setup → Tables → ℕ → List ℕ → GroupTold × Tables × List ℕ
+castSays q t g packet = castBy q (hasTables q t) (verdictAfter q (nameAt t (entryFor q g packet)) (nameOf packet)) t g packet
+
 -- ---- the alive call
 
 unfoldable pub aliveSays : Setup → List ℕ → ℕ
@@ -207,6 +259,7 @@ says q log (message packet) = messageSays q log packet
 says q log (alive packet) = aliveSays q packet
 says q log (clock ms) = clockSays q log ms
 says q log (aside question) = questionSays q log
+says q log (aside (multicast t g packet)) = castSays q t g packet
 
 -- The log of the calls after a setup: setup's arguments and the calls, and nothing else.
 unfoldable pub logOf : Setup → List Exchange → List Event → List Exchange

@@ -12,13 +12,14 @@ use Rattle.answers.specs.Told.{callNumber}
 use Rattle.rules.specs.calls.Alive.{aliveAnswer}
 use Rattle.rules.specs.calls.Clock.{clockAnswer}
 use Rattle.rules.specs.calls.Message.{area, messageAnswer}
+use Rattle.rules.specs.calls.Multicast.{Tables}
 use Rattle.rules.specs.calls.Setup.{setupAnswer}
-use Rattle.rules.specs.pasts.Past.{World, Event, message, alive, clock, aside, question, Said, Answers}
+use Rattle.rules.specs.pasts.Past.{World, Event, message, alive, clock, aside, question, multicast, Said, Answers}
 use Rattle.words.specs.Words.{wordsMost, isState, stateIn, leftBy}
 use Rattle.board.specs.declared.Told.{Told}
 use Rattle.board.specs.declared.Missing.{Missing}
 use Rattle.board.specs.declared.Ticked.{Ticked}
-use Rattle.board.specs.Calls.{setupFor, setupWords, toldOf, messageFor, storageFor, aliveFor, tickedOf, clockFor, missingOf, questionFor}
+use Rattle.board.specs.Calls.{setupFor, setupWords, toldOf, messageFor, storageFor, aliveFor, tickedOf, clockFor, missingOf, questionFor, groupToldOf, multicastFor, tablesFor}
 use Rattle.promises.specs.Course.{world, SetupMeets, Course}
 
 -- What a board holds: the words of its state, and the storage.
@@ -40,6 +41,7 @@ InNumbers (message packet) = Told
 InNumbers (alive packet) = ℕ
 InNumbers (clock ms) = Ticked
 InNumbers (aside question) = Missing
+InNumbers (aside (multicast t g packet)) = Told × Tables
 
 -- The call e, made at the board b, answered r and left the board c. A packet is octets.
 abbrev pub BoardMeets : (b : Board) (e : Event) → InNumbers e → Board → Type 0
@@ -53,6 +55,8 @@ BoardMeets b (alive packet) r c =
 BoardMeets b (clock ms) r c =
     (r ≡ clockFor (b .words) ms) × (c .words ≡ leftBy (b .words) (clockAnswer (stateIn (b .words)) ms .state)) × (c .storage ≡ b .storage)
 BoardMeets b (aside question) r c = (r ≡ questionFor (b .words)) × (c .words ≡ b .words) × (c .storage ≡ b .storage)
+BoardMeets b (aside (multicast t g packet)) r c =
+    ((r .0 ≡ multicastFor (b .words) t g packet) × (r .1 ≡ tablesFor (b .words) t g packet)) × (c .words ≡ b .words) × (c .storage ≡ b .storage)
 
 -- "a setup, storage of its right length with any octets in it": adp_setup was called with as many words as a state has.
 pub record BoardStarts (q : Setup) (l : List ℕ) (number : ℕ) (b : Board) : Type 0 where
@@ -77,6 +81,7 @@ numbersOf (message packet) r = toldOf (r .0) (length packet)
 numbersOf (alive packet) r = callNumber (r .call)
 numbersOf (clock ms) r = tickedOf r
 numbersOf (aside question) r = missingOf r
+numbersOf (aside (multicast t g packet)) r = (groupToldOf (r .0) (length packet), r .1)
 
 abbrev pub allNumbers : (es : List Event) → Answers es → AllInNumbers es
 allNumbers [] rs = tt

@@ -1,13 +1,15 @@
 -- A board's calls are a course. Assumes nothing.
-use mathlib.Core.Path.{_≡_, refl, sym, ap, subst, _∙_}
+use mathlib.Core.Path.{_≡_, refl, sym, ap, ap₂, subst, _∙_}
 use mathlib.Core.Bool.{true}
 use mathlib.Core.List.{[], _∷_}
 use lib.ListN.{length}
 use borrow.Author.Tests.{eq-eqb}
-use Rattle.rules.specs.pasts.Past.{Event, message, alive, clock, aside, question, step, said, answers}
+use Rattle.rules.specs.pasts.Past.{Event, message, alive, clock, aside, question, multicast, step, said, answers}
 use Rattle.rules.specs.calls.Setup.{setupAnswer}
+use Rattle.rules.specs.calls.Multicast.{Tables}
 use Rattle.words.specs.Words.{wordsMost, isState, stateIn, wordsOf}
-use Rattle.board.specs.Calls.{setupFor, setupWords, messageFor, storageFor, aliveFor, clockFor, questionFor}
+use Rattle.board.specs.declared.Told.{Told}
+use Rattle.board.specs.Calls.{setupFor, setupWords, messageFor, storageFor, aliveFor, clockFor, questionFor, multicastFor, tablesFor}
 use Rattle.board_message.specs.MessageLaws.{message-means}
 use Rattle.board_alive.specs.HeardLaws.{alive-means}
 use Rattle.board_clock.specs.TickedLaws.{clock-means}
@@ -19,7 +21,7 @@ use Rattle.promises.specs.CourseLaws.{same-world, a-call}
 -- One call: it is told what the call by value says, and leaves the words of what that call leaves.
 one-call : (b : Board) → isState (b .words) ≡ true → (e : Event) (r : InNumbers e) (c : Board) → BoardMeets b e r c
     → (isState (c .words) ≡ true) × (worldOf c ≡ step (worldOf b) e) × (r ≡ numbersOf e (said (worldOf b) e))
-unfolding step said messageFor storageFor aliveFor clockFor questionFor
+unfolding step said messageFor storageFor aliveFor clockFor questionFor multicastFor tablesFor
 one-call b is (message packet) r c m =
     let means = message-means (b .words) (b .storage) packet is in
     (rw (m .1) (means .is-state), same-world (ap stateIn (m .1) ∙ means .state) (m .2 ∙ rw is), m .0 ∙ rw is)
@@ -31,6 +33,8 @@ one-call b is (clock ms) r c m =
     (rw (m .1) (means .is-state), same-world (ap stateIn (m .1) ∙ means .state) (m .2), m .0 ∙ rw is)
 one-call b is (aside question) r c m =
     (rw (m .1) is, same-world (ap stateIn (m .1)) (m .2), m .0 ∙ rw is)
+one-call b is (aside (multicast t g packet)) r c m =
+    (rw (m .1) is, same-world (ap stateIn (m .1)) (m .2), ap₂ (λ (x : Told) (y : Tables). (x, y)) (m .0 .0 ∙ rw is) (m .0 .1 ∙ rw is))
 
 pub board-is-course : BoardIsCourse
 unfolding answers

@@ -34,7 +34,7 @@ module _ (g : Given) (octets : List ℕ) (u c : ℕ) (packet : List ℕ) (cut : 
       let within : Within (length octets) u c = record { big = l .octets; low = l .unit .0; high = l .unit .1; first = l .piece .0; last = l .piece .1 } in
       limits-cut g octets u c room l (omega (arith, cut .room, within-short (length octets) u c within))
 
-  packet-is : packet ≡ pdu g octets u c
+  pub packet-is : packet ≡ pdu g octets u c
   unfolding cutterAnswer cutterBuffer run
   packet-is =
       let within = cuts-within g octets u c room it-cuts in

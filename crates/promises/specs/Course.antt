@@ -18,6 +18,7 @@ use Rattle.fault.specs.Writing.{writingOf, bufferOf}
 use Rattle.state.specs.declared.Receiver.{Receiver}
 use Rattle.state.specs.Held.{heldAt}
 use Rattle.answers.specs.declared.Answer.{Answer}
+use Rattle.answers.specs.declared.GroupAnswer.{GroupAnswer}
 use Rattle.answers.specs.declared.Missing.{Missing}
 use Rattle.answers.specs.declared.Noted.{Noted}
 use Rattle.answers.specs.declared.Setup.{Setup}
@@ -27,8 +28,9 @@ use Rattle.answers.specs.declared.Where.{Where}
 use Rattle.rules.specs.calls.Alive.{aliveAnswer}
 use Rattle.rules.specs.calls.Clock.{clockAnswer}
 use Rattle.rules.specs.calls.Message.{area, messageAnswer, messageStorage}
+use Rattle.rules.specs.calls.Multicast.{Tables, multicastAnswer, multicastTables}
 use Rattle.rules.specs.calls.Part.{partOf}
-use Rattle.rules.specs.pasts.Past.{World, Event, message, alive, clock, aside, question, Said, Answers}
+use Rattle.rules.specs.pasts.Past.{World, Event, message, alive, clock, aside, question, multicast, Said, Answers}
 use Rattle.rules.specs.calls.Question.{questionAnswer}
 use Rattle.rules.specs.calls.Setup.{setupAnswer}
 use Rattle.tally.specs.declared.Tally.{Tally}
@@ -75,6 +77,12 @@ pub record QuestionMeets (w : World) (r : Missing) (v : World) : Type 0 where
   pub answered : r ≡ questionAnswer (w .state)
   pub stays : v ≡ w
 
+-- 02, Item 5: a packet to a group, with the tables t lent, which it left as `left`.
+pub record GroupMeets (w : World) (t : Tables) (g : ℕ) (packet : List ℕ) (r : GroupAnswer) (left : Tables) (v : World) : Type 0 where
+  pub answered : r ≡ multicastAnswer (w .state) t g packet
+  pub kept : left ≡ multicastTables (w .state) t g packet
+  pub stays : v ≡ w
+
 -- 02, Item 1: the maintenance page asks how many pieces the sender at a place has. That stands in no past: it changes
 -- nothing.
 pub record HeldMeets (w : World) (place held : ℕ) : Type 0 where
@@ -116,13 +124,14 @@ pub record WriteMeets (p : Parts) (buffer : List ℕ) (r : Writing) (left : List
 
 -- ---- a course
 
--- What the call e said at the world w, and the world that it left; a message call, with the part that is then handed
--- over.
+-- What the call e said at the world w, and the world that it left; a message call and a multicast call, with the part that is
+-- then handed over.
 abbrev pub Meets : (w : World) (e : Event) → Said e → World → Type 0
 Meets w (message packet) r v = MessageMeets w packet (r .0) v × PartMeets (r .0 .lies) packet (v .storage) (r .1)
 Meets w (alive packet) r v = AliveMeets w packet r v
 Meets w (clock ms) r v = ClockMeets w ms r v
 Meets w (aside question) r v = QuestionMeets w r v
+Meets w (aside (multicast t g packet)) r v = GroupMeets w t g packet (r .0) (r .1) v × PartMeets (r .0 .lies) packet (v .storage) (r .2)
 
 -- Calls from the world w on, in the order of time, "each given the state and storage that the one before left"; v is
 -- what the last one left.

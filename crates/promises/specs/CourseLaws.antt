@@ -8,13 +8,15 @@ use Rattle.header.specs.declared.Given.{Given}
 use Rattle.cut.specs.declared.cutter.Cutting.{Cutting}
 use Rattle.state.specs.declared.Receiver.{Receiver}
 use Rattle.answers.specs.declared.Answer.{Answer}
+use Rattle.answers.specs.declared.GroupAnswer.{GroupAnswer}
 use Rattle.answers.specs.declared.Noted.{Noted}
 use Rattle.answers.specs.declared.Setup.{Setup}
 use Rattle.answers.specs.declared.Started.{Started}
 use Rattle.answers.specs.declared.Ticked.{Ticked}
+use Rattle.rules.specs.calls.Multicast.{Tables}
 use Rattle.rules.specs.calls.Part.{partOf}
 use Rattle.rules.specs.calls.Setup.{setupAnswer}
-use Rattle.rules.specs.pasts.Past.{World, Event, message, alive, clock, aside, question, step, after, Said, said, Answers, answers, Start}
+use Rattle.rules.specs.pasts.Past.{World, Event, message, alive, clock, aside, question, multicast, step, after, Said, said, Answers, answers, Start}
 use Rattle.rules.specs.pasts.PastLaws.{Sound, past-sound}
 use Rattle.promises.specs.Course.{world, SetupMeets, MessageMeets, CutterMeets, Meets, Course, Leads, messagesOf}
 
@@ -25,6 +27,11 @@ same-world {v} {state} {storage} e f = ap (λ (x : Receiver). world x (v .storag
 
 same-said : {r : Answer × List ℕ} {answer : Answer} {part : List ℕ} → r .0 ≡ answer → r .1 ≡ part → r ≡ (answer, part)
 same-said {r} {answer} {part} e f = ap (λ (x : Answer). (x, r .1)) e ∙ ap (λ (x : List ℕ). (answer, x)) f
+
+same-heard : {r : GroupAnswer × Tables × List ℕ} {answer : GroupAnswer} {left : Tables} {part : List ℕ} → r .0 ≡ answer → r .1 ≡ left → r .2 ≡ part
+    → r ≡ (answer, left, part)
+same-heard {r} {answer} {left} {part} e f g =
+    ap (λ (x : GroupAnswer). (x, r .1, r .2)) e ∙ ap (λ (x : Tables). (answer, x, r .2)) f ∙ ap (λ (x : List ℕ). (answer, left, x)) g
 
 same-part : {r answer : Answer} {storage left : List ℕ} (packet : List ℕ) → r ≡ answer → storage ≡ left
     → partOf (r .lies) packet storage ≡ partOf (answer .lies) packet left
@@ -39,6 +46,10 @@ one-call w (message packet) r v m = (
 one-call w (alive packet) r v m = (m .answered, same-world (m .handed-on ∙ ap (λ (x : Noted). x .state) (m .answered)) (m .stays))
 one-call w (clock now) r v m = (m .answered, same-world (m .handed-on ∙ ap (λ (x : Ticked). x .state) (m .answered)) (m .stays))
 one-call w (aside question) r v m = (m .answered, m .stays)
+one-call w (aside (multicast t g packet)) r v m = (
+  same-heard (m .0 .answered) (m .0 .kept) (m .1 .handed-over ∙ rw (m .0 .answered, m .0 .stays)),
+  m .0 .stays,
+)
 
 pub a-call : (w : World) (e : Event) → Meets w e (said w e) (step w e)
 unfolding said step
@@ -46,6 +57,7 @@ a-call w (message packet) = (record { answered = refl; stored = refl; handed-on 
 a-call w (alive packet) = record { answered = refl; stays = refl; handed-on = refl }
 a-call w (clock now) = record { answered = refl; stays = refl; handed-on = refl }
 a-call w (aside question) = record { answered = refl; stays = refl }
+a-call w (aside (multicast t g packet)) = (record { answered = refl; kept = refl; stays = refl }, record { handed-over = refl })
 
 -- ---- a course
 

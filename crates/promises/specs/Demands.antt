@@ -7,18 +7,19 @@
 -- function shows, contract or not.
 use Prim.Native.Nat.{ℕ, _+_, _*_, _≤_, _<_}
 use mathlib.Core.Path.{_≡_}
-use mathlib.Core.Logic.{_≢_}
+use mathlib.Core.Logic.{_≢_, _⊎_}
 use mathlib.Core.Bool.{Bool, true, false, not, cond}
 use mathlib.Core.List.{List, [], _∷_, _++_, map, List·Memᴰ}
 use lib.Count.{ones}
 use lib.Dec.{ltb}
-use lib.ListN.{length, take, drop, getD}
+use lib.ListN.{length, take, drop, getD, replicate}
 use lib.Pow.{areBytes}
 use Rattle.octets.specs.Run.{run}
 use Rattle.ring.specs.Edges as newer-edges
+use Rattle.ring.specs.Check.{isRepeat}
 use Rattle.ring.specs.Printed.{CheckAsPrinted, NewerAsPrinted}
 use Rattle.header.specs.declared.Given.{Given}
-use Rattle.header.specs.Head.{headOf}
+use Rattle.header.specs.Head.{headOf, header}
 use Rattle.header.specs.Printed.{HeaderAsPrinted}
 use Rattle.cut.specs.declared.cutter.Cutting.{Cutting}
 use Rattle.cut.specs.Cutter.{Words, cuts, cutterTold}
@@ -31,27 +32,31 @@ use Rattle.fault.specs.Edges as fault-edges
 use Rattle.fault.specs.Reading.{isSection, report, refused as unread, noError}
 use Rattle.fault.specs.Section.{Section, isDead, bitsSize, bitsOf, numbersOf, octetsOf, isWithin, SectionOf}
 use Rattle.fault.specs.Writing.{sizeGiven, keepsRules, writingTold}
+use Rattle.groups.specs.Groups as groups
+use Rattle.groups.specs.Groups.{numberAt}
 use Rattle.state.specs.Limits.{given}
 use Rattle.state.specs.State.{emptyReceiver, senderAt}
-use Rattle.state.specs.Table.{source}
+use Rattle.state.specs.Table.{source, found}
 use Rattle.answers.specs.declared.Setup.{Setup}
 use Rattle.answers.specs.declared.Started.{Started}
-use Rattle.answers.specs.Told.{RefusedAs, deliveredAs, HasVerdict, nothingHanded, messageTold, messageRefused, callNumber, clockTold, clockRefused, questionTold, noneOpen, OutcomeTells, CallTells, MissingTells}
+use Rattle.answers.specs.Told.{RefusedAs, deliveredAs, HasVerdict, nothingHanded, messageTold, messageRefused, groupTold, groupRefused, callNumber, clockTold, clockRefused, questionTold, noneOpen, OutcomeTells, CallTells, MissingTells}
 use Rattle.rules.specs.calls.Alive.{aliveRows}
 use Rattle.rules.specs.calls.Clock.{clockRows}
 use Rattle.rules.specs.calls.First.{Row, row}
 use Rattle.rules.specs.calls.First as rows
 use Rattle.rules.specs.calls.Message.{messageRows}
+use Rattle.rules.specs.calls.Multicast.{Tables, entryPlace, multicastRows}
 use Rattle.rules.specs.calls.Question.{questionRows}
 use Rattle.rules.specs.calls.Setup.{setupWithin}
 use Rattle.rules.specs.pasts.Listings as listings
-use Rattle.rules.specs.pasts.Past.{World, Event, message, alive, clock, aside, question, Said, Answers}
+use Rattle.rules.specs.pasts.Past.{World, Event, message, alive, clock, aside, question, multicast, Said, Answers}
 use Rattle.promised.specs.AlivePast.{AliveBy}
 use Rattle.promised.specs.Delivery.{Sent, sentBy, Numbered, PieceOf, May, Between, OnlyPieces, verdictFor, OneApplies, Arrives, Once, Listed}
+use Rattle.promised.specs.HandedOn.{HandedOn, lastHeard, castAfter}
 use Rattle.promised.specs.Join.{Joined}
-use Rattle.promised.specs.Log.{toldBy, Exchange, logged, Name, nameOf, deliveries, acceptedWith, openOf, lifeOf}
+use Rattle.promised.specs.Log.{toldBy, Exchange, logged, Name, nameOf, deliveries, casts, lastCast, acceptedWith, openOf, lifeOf}
 use Rattle.promised.specs.Newcomer.{Under, freshTold, Newcomer}
-use Rattle.promised.specs.Says.{sendersOf, placeOf, heldSays, says, logOf}
+use Rattle.promised.specs.Says.{sendersOf, groupsOf, placeOf, hasTables, nameAt, verdictAfter, heldSays, says, logOf}
 use Rattle.promises.specs.AsPrinted.{CuttingAsPrinted}
 use Rattle.promises.specs.Board.{BoardBegins, BoardIsCourse}
 use Rattle.promises.specs.Counted.{TalliedIsCourse, OneCounted, AllCounted}
@@ -65,6 +70,7 @@ numberIn (message packet) r = messageTold (r .0) .outcome .number
 numberIn (alive packet) r = callNumber (r .call)
 numberIn (clock ms) r = clockTold r .number
 numberIn (aside question) r = questionTold r .number
+numberIn (aside (multicast t g packet)) r = groupTold (r .0) .outcome .number
 
 -- and that nothing more was than number k: "any other answer gives an empty part", "(both 0 on a refusal)".
 abbrev pub NothingMore : (e : Event) → Said e → ℕ → Type 0
@@ -72,6 +78,8 @@ NothingMore (message packet) r k = (messageTold (r .0) ≡ messageRefused k) × 
 NothingMore (alive packet) r k = callNumber (r .call) ≡ k
 NothingMore (clock ms) r k = clockTold r ≡ clockRefused k
 NothingMore (aside question) r k = questionTold r ≡ noneOpen k
+-- 02, Item 5: and no entry of either table changes.
+NothingMore (aside (multicast t g packet)) r k = (groupTold (r .0) ≡ groupRefused k) × (r .1 ≡ t) × (r .2 ≡ [])
 
 -- Number k was answered, and is a refusal's.
 abbrev pub RefusedWith : (e : Event) → Said e → ℕ → Type 0
@@ -83,6 +91,7 @@ rowsOf w (message packet) = messageRows (w .state) (length (w .storage)) packet
 rowsOf w (alive packet) = aliveRows (w .state) packet
 rowsOf w (clock ms) = clockRows (w .state) ms
 rowsOf w (aside question) = questionRows (w .state)
+rowsOf w (aside (multicast t g packet)) = multicastRows (w .state) t g packet
 
 -- "Bad input meets the numbered refusal that the papers fix": of the number that was answered, that it is a refusal's
 -- and k, exactly if the row of k is the first that applies. "returns: nothing more", and "A refusal changes neither the
@@ -108,12 +117,13 @@ CutterRefuses = (g : Given) (m : List ℕ) (u c : ℕ) (buffer : List ℕ) (r : 
     → Refuses (row 23 (not (cuts g m u c (length buffer))) ∷ []) (cutterTold r .number) (λ k. (cutterTold r .length ≡ 0) × (left ≡ buffer))
 
 -- A number is told by one case of an answer alone, since a refusal has one of 9 or more: what is said here of numbers
--- and values is said of the answers (`one-answer`, `one-call` and `one-missing` of `answers`).
+-- and values is said of the answers (`one-answer`, `one-group`, `one-call` and `one-missing` of `answers`).
 abbrev pub Tells : (e : Event) → Said e → Type 0
 Tells (message packet) r = OutcomeTells (r .0 .outcome)
 Tells (alive packet) r = CallTells (r .call)
 Tells (clock ms) r = CallTells (r .call)
 Tells (aside question) r = MissingTells r
+Tells (aside (multicast t g packet)) r = OutcomeTells (r .0 .outcome)
 
 abbrev pub NumbersTell : Type 0
 NumbersTell = ((w : World) (e : Event) (r : Said e) (v : World) → Meets w e r v → Tells e r)
@@ -326,6 +336,78 @@ NewcomerSaid = AfterPast (λ q log v. (packet : List ℕ) (r : Said (message pac
 abbrev pub EveryNewerEdge : Type 0
 EveryNewerEdge = newer-edges.all newer-edges.edges ≡ true
 
+-- ---- 02, Item 5: multicast groups
+
+-- That each number is given exactly when its row is the first, and that a refusal changes no entry, stands in `CallsRefuse`;
+-- that no past meets 9, in `NeverNine`; that demands 1 and 3, safety and the answers by the past hold with multicast calls of
+-- anyone between, in their being calls of a past.
+
+-- "Nothing else of state, tables or storage changes": the entries of another sender, group or priority never, whatever the state
+-- and the tables.
+abbrev pub OwnEntryOnly : Type 0
+OwnEntryOnly = (w : World) (t : Tables) (g : ℕ) (packet : List ℕ) (r : Said (aside (multicast t g packet))) (v : World) → Meets w (aside (multicast t g packet)) r v
+    → (i j p : ℕ) → j < w .state .groups .count → p < 8
+    → ¬ ((i ≡ found (w .state) (headOf packet)) × (j ≡ groups.placeOf (w .state .groups) g) × (p ≡ headOf packet .given .pri))
+    → let k = entryPlace (w .state .groups .count) i j p in
+    nameAt (r .1) k ≡ nameAt t k
+
+-- What is said after any past in which the tables were handed on: they began as `begun`, within 26's limits, and are now t.
+abbrev pub WithTables : (Setup → Tables → List Exchange → World → Tables → Type 0) → Type 0
+WithTables P = (q : Setup) (r : Started) (w : World) → SetupMeets q r w → (es : List Event) (rs : Answers es) (v : World) → Course w es rs v
+    → (begun t : Tables) → hasTables q begun ≡ true → HandedOn begun es rs t → P q begun (logged [] es rs) v t
+
+-- "The last version and number are kept for each sender, group and priority": each entry holds those of the last message that was
+-- delivered there and not unchecked, and what it began with where none was.
+abbrev pub EntryIsLast : Type 0
+EntryIsLast = WithTables (λ q begun log v t. (i j p : ℕ) → i < length (sendersOf q) → j < groupsOf q .count → p < 8
+    → let k = entryPlace (groupsOf q .count) i j p in
+    nameAt t k ≡ lastCast (given (sendersOf q) i) (numberAt (groupsOf q) j) p (nameAt begun k) (casts log))
+
+-- Tables of zeros may begin.
+abbrev pub ZerosPass : Type 0
+ZerosPass = (q : Setup)
+    → let n = length (sendersOf q) * groupsOf q .count * 8 in
+    hasTables q (record { versions = replicate n 0; numbers = replicate n 0 }) ≡ true
+
+-- No such past meets 26.
+abbrev pub NeverTwentySix : Type 0
+NeverTwentySix = WithTables (λ q begun log v t. (g : ℕ) (packet : List ℕ) (r : Said (aside (multicast t g packet))) (u : World)
+    → Meets v (aside (multicast t g packet)) r u → ¬ (RefusedWith (aside (multicast t g packet)) r 26))
+
+-- What a packet to a group is told, by the past alone.
+abbrev pub CastSaid : Type 0
+CastSaid = WithTables (λ q begun log v t. (g : ℕ) (packet : List ℕ) (r : Said (aside (multicast t g packet))) (u : World)
+    → Meets v (aside (multicast t g packet)) r u → toldBy (aside (multicast t g packet)) r ≡ castAfter q begun log t g packet)
+
+-- "Messages have one piece and 0 to 1,408 octets": the PDU of such a message, with header values within their limits.
+pub record GroupPdu (g : Given) (octets packet : List ℕ) : Type 0 where
+  pub octets-most : length octets ≤ 1408
+  pub words : Words g
+  pub data-field : g .field .0 ≤ 255
+  pub node : g .node .0 ≤ 4095
+  pub number : (1 ≤ g .number .0) × (g .number .0 ≤ 2147483647)
+  pub code : (1 ≤ g .tcd) × (g .tcd ≤ 59999)
+  pub mode : g .mode ≤ 1
+  pub pri : g .pri ≤ 7
+  pub is : packet ≡ header (record { given = g; cut = record { ml = length octets + 64; bsize = length octets + 64; cbn = 1; tbn = 1 } }) ++ octets
+
+-- Its sender and the group are registered, the node's mode admits it, and by the past it is no repeat.
+pub record MayReach (q : Setup) (begun : Tables) (log : List Exchange) (g : ℕ) (packet : List ℕ) : Type 0 where
+  pub known : placeOf (sendersOf q) (source (headOf packet)) < length (sendersOf q)
+  pub registered : groups.placeOf (groupsOf q) g < groupsOf q .count
+  pub admitted : (headOf packet .given .mode ≡ 0) ⊎ (q .mode ≡ 1)
+  pub no-repeat : isRepeat (verdictAfter q (lastHeard q begun log g packet) (nameOf packet)) ≡ false
+
+-- Then it is delivered, octet for octet, with the check's verdict: those of our cutter in one piece, and 1,397 to 1,408 octets that
+-- another sender wrote.
+abbrev pub GroupDelivers : Type 0
+GroupDelivers = WithTables (λ q begun log v t. (g : ℕ) (h : Given) (octets packet : List ℕ) → GroupPdu h octets packet → MayReach q begun log g packet
+    → (r : Said (aside (multicast t g packet))) (u : World) → Meets v (aside (multicast t g packet)) r u
+    → (groupTold (r .0) .outcome ≡ deliveredAs (verdictAfter q (lastHeard q begun log g packet) (nameOf packet))) × (r .2 ≡ octets))
+
+abbrev pub CutToGroup : Type 0
+CutToGroup = (g : Given) → Words g → (octets : List ℕ) (u : ℕ) (packet : List ℕ) → length octets ≤ u → Cut g octets u 1 packet → GroupPdu g octets packet
+
 -- ---- uniqueness, and the edges
 
 -- "Uniqueness is itself proved": of two programs, or of one that runs twice, the same calls get the same answers and
@@ -403,6 +485,13 @@ pub record Demands : Type 0 where
   pub newer-printed : NewerAsPrinted
   pub newcomer-said : NewcomerSaid
   pub every-newer-edge : EveryNewerEdge
+  pub own-entry-only : OwnEntryOnly
+  pub entry-is-last : EntryIsLast
+  pub zeros-pass : ZerosPass
+  pub never-twenty-six : NeverTwentySix
+  pub cast-said : CastSaid
+  pub group-delivers : GroupDelivers
+  pub cut-to-group : CutToGroup
   pub one-reading : OneReading
   pub one-writing : OneWriting
   pub one-course : OneCourse

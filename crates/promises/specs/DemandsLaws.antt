@@ -29,6 +29,7 @@ use Rattle.state.specs.State.{senderAt, emptyReceiver}
 use Rattle.state.specs.Table.{source, found}
 use Rattle.answers.specs.declared.Answer.{Answer}
 use Rattle.answers.specs.declared.Call.the-variants as call
+use Rattle.answers.specs.declared.GroupAnswer.{GroupAnswer}
 use Rattle.answers.specs.declared.Missing.{Missing}
 use Rattle.answers.specs.declared.Noted.{Noted}
 use Rattle.answers.specs.declared.Outcome.{Outcome}
@@ -37,7 +38,7 @@ use Rattle.answers.specs.declared.Setup.{Setup}
 use Rattle.answers.specs.declared.Where.the-variants as lies
 use Rattle.answers.specs.declared.Started.{Started}
 use Rattle.answers.specs.declared.Ticked.{Ticked}
-use Rattle.answers.specs.Told.{leastRefusal, RefusedAs, OutcomeTold, outcomeTold, whereTold, HasVerdict, MessageTold, messageTold, callNumber, clockTold, questionTold, CallTells}
+use Rattle.answers.specs.Told.{leastRefusal, RefusedAs, OutcomeTold, outcomeTold, whereTold, HasVerdict, MessageTold, messageTold, groupTold, callNumber, clockTold, questionTold, CallTells}
 use Rattle.promised.specs.AlivePast.{AliveBy}
 use Rattle.rules.specs.calls.Admit.{senderRows, verdictOf, admitted, fills}
 use Rattle.rules.specs.calls.AdmitLaws.{admitted-facts}
@@ -55,12 +56,13 @@ use Rattle.promised.specs.MessageSaysLaws.{safe}
 use Rattle.promised.specs.Says.{sendersOf, placeOf, says}
 use Rattle.promised.specs.SaysLaws.{held-says}
 use Rattle.promised.specs.Log.{toldBy, Exchange, logged, nameOf, deliveries, acceptedWith, openOf, lifeOf}
-use Rattle.rules.specs.calls.ExactlyLaws.{message-refuses, message-given, alive-refuses, alive-given, clock-refuses, clock-given, question-refuses, question-given, setup-refuses, setup-given, message-tells, alive-tells, clock-tells, question-tells, setup-tells}
+use Rattle.rules.specs.calls.ExactlyLaws.{message-refuses, message-given, alive-refuses, alive-given, clock-refuses, clock-given, question-refuses, question-given, multicast-above, multicast-refuses, multicast-given, multicast-tells, setup-refuses, setup-given, message-tells, alive-tells, clock-tells, question-tells, setup-tells}
 use Rattle.rules.specs.calls.First.{Row, row, Given}
 use Rattle.rules.specs.calls.FirstLaws.{above, given-above, first-given, first-neither, numbered}
 use Rattle.promised.specs.Join.{Joined}
+use Rattle.rules.specs.calls.Multicast.{castRows}
 use Rattle.rules.specs.calls.Message.{area, messageRows, whereBy, refused, packetRows, messageNumber, taken, messageAnswer}
-use Rattle.rules.specs.pasts.Past.{World, Event, message, alive, clock, aside, question, step, after, Said, said, Answers}
+use Rattle.rules.specs.pasts.Past.{World, Event, message, alive, clock, aside, question, multicast, step, after, Said, said, Answers}
 use Rattle.rules.specs.pasts.PastLaws.{Sound}
 use Rattle.rules.specs.calls.Setup.{setupWithin}
 use Rattle.promises.specs.Course.{SetupMeets, Course}
@@ -76,6 +78,7 @@ rows-above w (message packet) = refl
 rows-above w (alive packet) = refl
 rows-above w (clock now) = refl
 rows-above w (aside question) = refl
+rows-above w (aside (multicast t g packet)) = multicast-above (w .state) t g packet
 
 least : (w : World) (e : Event) (k : ℕ) → Given (rowsOf w e) k → leastRefusal ≤ k
 least w e k g = omega (arith, given-above 8 (rowsOf w e) k (rows-above w e) g)
@@ -106,6 +109,14 @@ said-refuses w (aside question) = record {
   only-if = question-given (w .state);
   if-first = λ k g. (ap (λ (x : Missing). questionTold x .number) (question-refuses (w .state) k g), least w (aside question) k g);
   nothing = λ k e. (ap questionTold (question-refuses (w .state) k (question-given (w .state) k e)), refl);
+}
+said-refuses w (aside (multicast t g packet)) = record {
+  only-if = multicast-given (w .state) t g packet;
+  if-first = λ k given.
+      (ap (λ (x : GroupAnswer). groupTold x .outcome .number) (multicast-refuses (w .state) t g packet k given .0), least w (aside (multicast t g packet)) k given);
+  nothing = λ k e.
+      let f = multicast-refuses (w .state) t g packet k (multicast-given (w .state) t g packet k e) in
+      ((ap groupTold (f .0), f .1, rw (f .0)), refl);
 }
 
 pub calls-refuse : CallsRefuse
@@ -157,6 +168,7 @@ said-tells w (message packet) = message-tells (w .state) (w .storage) packet
 said-tells w (alive packet) = alive-tells (w .state) packet
 said-tells w (clock now) = clock-tells (w .state) now
 said-tells w (aside question) = question-tells (w .state)
+said-tells w (aside (multicast t g packet)) = multicast-tells (w .state) t g packet
 
 pub numbers-tell : NumbersTell
 numbers-tell = (
@@ -205,7 +217,7 @@ not-given k b rs e a (inl g) = never-both (g .0) e
 not-given k b rs e a (inr g) = omega (arith, given-above k rs k a (g .1))
 
 -- nor where another's row comes first and it is not given behind.
-not-behind : (j k : ℕ) (b : Bool) (rs : List Row) → k ≢ j → ¬ (Given rs j) → ¬ (Given (row k b ∷ rs) j)
+pub not-behind : (j k : ℕ) (b : Bool) (rs : List Row) → k ≢ j → ¬ (Given rs j) → ¬ (Given (row k b ∷ rs) j)
 unfolding Given
 not-behind j k b rs ne none (inl g) = ne (g .1)
 not-behind j k b rs ne none (inr g) = none (g .1)
@@ -219,12 +231,13 @@ neither b rs e a none = (not-given 9 (not b) rs (rw e) a, not-behind 11 9 (not b
 
 -- A valid state meets no 9, and storage of the right length no 11.
 never-given : (w : World) → Sound w → (e : Event) → ¬ (Given (rowsOf w e) 9) × ¬ (Given (rowsOf w e) 11)
-unfolding messageRows senderRows aliveRows above
+unfolding messageRows senderRows aliveRows castRows above
 never-given w s (message packet) = neither _ _ (s .is-valid) refl
     (not-given 11 (not (eqb (length (w .storage)) (w .state .count * area))) _ (rw (eq-eqb (length (w .storage)) (w .state .count * area) (s .room))) refl)
 never-given w s (alive packet) = neither _ _ (s .is-valid) refl (not-above 11 _ refl)
 never-given w s (clock now) = neither _ _ (s .is-valid) refl (not-above 11 _ refl)
 never-given w s (aside question) = neither _ _ (s .is-valid) refl (not-above 11 _ refl)
+never-given w s (aside (multicast t g packet)) = neither _ _ (s .is-valid) refl (not-above 11 _ refl)
 
 pub never-nine : NeverNine
 never-nine q r w m es rs v c e a u meets =
@@ -269,11 +282,12 @@ unfolding Given
 nine-first b rs e = inl (rw e, refl)
 
 nine-given : (w : World) → valid (w .state) ≡ false → (e : Event) → Given (rowsOf w e) 9
-unfolding messageRows aliveRows
+unfolding messageRows aliveRows castRows
 nine-given w e (message packet) = nine-first _ _ e
 nine-given w e (alive packet) = nine-first _ _ e
 nine-given w e (clock now) = nine-first _ _ e
 nine-given w e (aside question) = nine-first _ _ e
+nine-given w e (aside (multicast t g packet)) = nine-first _ _ e
 
 pub differ-meets-nine : DifferMeetsNine
 differ-meets-nine w i here is differ e r v meets =

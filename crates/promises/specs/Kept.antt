@@ -14,6 +14,7 @@ use Rattle.promises.specs.CourseLaws as course
 use Rattle.promises.specs.Demands.{Demands}
 use Rattle.promises.specs.DemandsLaws as laws
 use Rattle.promises.specs.FaultLaws as fault
+use Rattle.promises.specs.GroupLaws as group
 
 pub kept : Demands
 kept = record {
@@ -56,6 +57,13 @@ kept = record {
   newer-printed = ring.newer-as-printed;
   newcomer-said = laws.newcomer-said;
   every-newer-edge = newer-edges.every-edge;
+  own-entry-only = group.own-entry-only;
+  entry-is-last = group.entry-is-last;
+  zeros-pass = group.zeros-pass;
+  never-twenty-six = group.never-twenty-six;
+  cast-said = group.cast-said;
+  group-delivers = group.group-delivers;
+  cut-to-group = group.cut-to-group;
   one-reading = fault.one-reading;
   one-writing = fault.one-writing;
   one-course = course.same-course;

@@ -8,6 +8,7 @@ pub mod BoardLaws
 pub mod CountedLaws
 pub mod Demands
 pub mod FaultLaws
+pub mod GroupLaws
 pub mod DemandsLaws
 pub mod ComesBackLaws
 pub mod Kept

@@ -15,17 +15,20 @@ ghost use Rattle.state.specs.Held.{heldAt};
 ghost use Rattle.rules.specs.calls.Alive.{aliveAnswer};
 ghost use Rattle.rules.specs.calls.Clock.{clockAnswer};
 ghost use Rattle.rules.specs.calls.Message.{area, messageAnswer, messageStorage};
+ghost use Rattle.rules.specs.calls.Multicast.{multicastAnswer, multicastTables};
 ghost use Rattle.rules.specs.calls.Part.{partOf};
 ghost use Rattle.rules.specs.pasts.Past as past;
 ghost use Rattle.rules.specs.pasts.Past.{step, after, said};
 ghost use Rattle.rules.specs.calls.Question.{questionAnswer};
 ghost use Rattle.rules.specs.calls.Setup.{setupAnswer};
+ghost use Rattle.multicast.specs.Lent.{tables};
 ghost use Rattle.tally.specs.Tally.{counted as countedOf};
 ghost use Rattle.words.specs.Words.{wordsMost, stateIn, leftBy};
-ghost use Rattle.board.specs.Calls.{setupFor, setupWords, messageFor, storageFor, tallyFor, aliveFor, clockFor, questionFor, heldFor};
+ghost use Rattle.board.specs.Calls.{setupFor, setupWords, messageFor, storageFor, tallyFor, aliveFor, clockFor, questionFor, multicastFor, tablesFor, heldFor};
 ghost use Rattle.promises.specs.Board.{board, worldOf, BoardMeets, BoardStarts};
-ghost use Rattle.promises.specs.Course.{world, messagesOf, Leads, SetupMeets, MessageMeets, TallyMeets, PartMeets, AliveMeets, ClockMeets, QuestionMeets, HeldMeets, CutterMeets, ReadMeets, DeadMeets, ErrorMeets, OptionsMeets, parts, WriteMeets};
+ghost use Rattle.promises.specs.Course.{world, messagesOf, Leads, SetupMeets, MessageMeets, TallyMeets, PartMeets, AliveMeets, ClockMeets, QuestionMeets, GroupMeets, HeldMeets, CutterMeets, ReadMeets, DeadMeets, ErrorMeets, OptionsMeets, parts, WriteMeets};
 use answers::Answer;
+use answers::GroupAnswer;
 use answers::Missing;
 use answers::Noted;
 use answers::Setup;
@@ -37,6 +40,7 @@ use board_alive::adp_alive;
 use board_clock::adp_clock;
 use board_held::adp_held;
 use board_message::adp_message;
+use board_multicast::adp_multicast;
 use board_question::adp_question;
 use board_setup::adp_setup;
 use board_tallied::adp_message_tallied;
@@ -47,6 +51,7 @@ use fault::reading;
 use fault::reading::Report;
 use fault::writing;
 use fault::writing::Writing;
+use groups::Group;
 use header::Given;
 use state::Receiver;
 use tally::Tally;
@@ -114,6 +119,22 @@ pub fn question(state: Receiver) -> Missing
     ensures meets { λ r. ⌜ ((storage : List ℕ) → QuestionMeets (world state storage) r (world state storage)) ⌝ }
 {
     question::question(state)
+}
+
+// A packet to a group: state and storage stay.
+pub fn multicast(
+    state: Receiver,
+    versions: &mut [u32],
+    numbers: &mut [u32],
+    group: Group,
+    packet: &[u8],
+) -> GroupAnswer
+    ensures answer { λ r. ⌜ r ≡ multicastAnswer state (tables (now (versions .entry)) (now (numbers .entry))) (group .0) (now (packet .entry)) ⌝ }
+    ensures versions { λ _. ⌜ now (versions .exit) ≡ multicastTables state (tables (now (versions .entry)) (now (numbers .entry))) (group .0) (now (packet .entry)) .versions ⌝ }
+    ensures numbers { λ _. ⌜ now (numbers .exit) ≡ multicastTables state (tables (now (versions .entry)) (now (numbers .entry))) (group .0) (now (packet .entry)) .numbers ⌝ }
+    ensures meets { λ r. ⌜ ((storage : List ℕ) → GroupMeets (world state storage) (tables (now (versions .entry)) (now (numbers .entry))) (group .0) (now (packet .entry)) r (tables (now (versions .exit)) (now (numbers .exit))) (world state storage)) ⌝ }
+{
+    multicast::multicast(state, versions, numbers, group, packet)
 }
 
 // What the maintenance page is told: the same of any storage.
@@ -225,6 +246,21 @@ pub fn board_question(state: &[u64]) -> board::Missing
     ensures meets { λ r. ⌜ ((storage : List ℕ) → BoardMeets (board (now (state .entry)) storage) (past.aside past.question) r (board (now (state .entry)) storage)) ⌝ }
 {
     adp_question(state)
+}
+
+pub fn board_multicast(
+    state: &[u64],
+    versions: &mut [u32],
+    numbers: &mut [u32],
+    group: u8,
+    packet: &[u8],
+) -> Told
+    ensures answer { λ r. ⌜ r ≡ multicastFor (now (state .entry)) (tables (now (versions .entry)) (now (numbers .entry))) group (now (packet .entry)) ⌝ }
+    ensures versions { λ _. ⌜ now (versions .exit) ≡ tablesFor (now (state .entry)) (tables (now (versions .entry)) (now (numbers .entry))) group (now (packet .entry)) .versions ⌝ }
+    ensures numbers { λ _. ⌜ now (numbers .exit) ≡ tablesFor (now (state .entry)) (tables (now (versions .entry)) (now (numbers .entry))) group (now (packet .entry)) .numbers ⌝ }
+    ensures meets { λ r. ⌜ ((storage : List ℕ) → BoardMeets (board (now (state .entry)) storage) (past.aside (past.multicast (tables (now (versions .entry)) (now (numbers .entry))) group (now (packet .entry)))) (r, tables (now (versions .exit)) (now (numbers .exit))) (board (now (state .entry)) storage)) ⌝ }
+{
+    adp_multicast(state, versions, numbers, group, packet)
 }
 
 // Of any words: it is not asked whether they are a state.

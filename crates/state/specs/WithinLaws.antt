@@ -18,13 +18,14 @@ use Rattle.cut.specs.Possible.{severalPossible}
 use Rattle.cut.specs.PossibleLaws.{several-facts, several-most}
 use Rattle.map.specs.Map.{fullMap, isEmpty, isFull, markedPast}
 use Rattle.map.specs.MapLaws.{partial-is}
+use Rattle.groups.specs.Groups.{groupsWithin}
 use Rattle.state.specs.declared.Address.{Address}
 use Rattle.state.specs.declared.Message.{Message}
 use Rattle.state.specs.declared.Sender.{Sender}
 use Rattle.state.specs.declared.Receiver.{Receiver}
-use Rattle.state.specs.Limits.{isAddress, sameAddress, lastWithin, messageWithin, senderWithin, newAmong, addressAt, sendersWithin, settingsWithin, valid}
+use Rattle.state.specs.Limits.{isN1, isDropTime, clockMost, isAddress, sameAddress, lastWithin, messageWithin, senderWithin, newAmong, addressAt, sendersWithin, settingsOf, settingsWithin, valid}
 use Rattle.state.specs.LimitsLaws.{new-ext}
-use Rattle.state.specs.State.{noSender, senderAt}
+use Rattle.state.specs.State.{sendersMost, noSender, senderAt}
 
 -- ---- an open message
 
@@ -215,6 +216,13 @@ valid-settings w e = and-left (settingsWithin w) (sendersWithin (w .clock) (w .s
 pub valid-senders : (w : Receiver) → valid w ≡ true → sendersWithin (w .clock) (w .senders) (w .count) ≡ true
 unfolding valid
 valid-senders w e = and-right (settingsWithin w) (sendersWithin (w .clock) (w .senders) (w .count)) e
+
+-- Its groups are within their limits.
+pub valid-groups : (w : Receiver) → valid w ≡ true → groupsWithin (w .groups) ≡ true
+unfolding settingsOf
+valid-groups w e =
+    let four = leb (w .clock) clockMost && leb (w .count) sendersMost && isN1 (w .n1) && isDropTime (w .t) in
+    and-right four (groupsWithin (w .groups)) (and-left (four && groupsWithin (w .groups)) _ (valid-settings w e))
 
 -- A valid state has no more senders than its table has places,
 pub valid-length : (w : Receiver) → valid w ≡ true → w .count ≤ length (w .senders)

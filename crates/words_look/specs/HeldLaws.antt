@@ -16,7 +16,7 @@ use Rattle.state.specs.declared.Look.{Look}
 use Rattle.state.specs.Limits.{clockMost, isN1, isDropTime, senderWithin, settingsOf, valid}
 use Rattle.state.specs.State.{sendersMost, senderAt}
 use Rattle.state.specs.Table.{lookAt}
-use Rattle.state.specs.WithinLaws.{SenderWithin, valid-settings, valid-sender, sender-of}
+use Rattle.state.specs.WithinLaws.{SenderWithin, valid-settings, valid-groups, valid-sender, sender-of}
 use Rattle.rules.specs.calls.Alike.{seen}
 use Rattle.words.specs.declared.Record.{Record}
 use Rattle.words.specs.Words.{word, groupsIn, recordAt, senderOf, fits, isState, stateIn}
@@ -59,11 +59,8 @@ n1-octets l e =
 
 -- The number of groups in an octet.
 pub groups-octet : (l : List ℕ) → valid (stateIn l) ≡ true → groupsIn (word l 5 % 256) (word l 6) ≡ groupsIn (word l 5) (word l 6)
-unfolding settingsOf
 groups-octet l e =
-    let a4 = leb (word l 3) clockMost && leb (word l 4) sendersMost && isN1 (word l 1) && isDropTime (word l 2) in
-    let within = and-right a4 (groupsWithin (groupsIn (word l 5) (word l 6))) (and-left (a4 && groupsWithin (groupsIn (word l 5) (word l 6))) _ (valid-settings (stateIn l) e)) in
-    ap (λ (k : ℕ). groupsIn k (word l 6)) (mod-eq-of-lt (omega (arith, within-few (groupsIn (word l 5) (word l 6)) within)))
+    ap (λ (k : ℕ). groupsIn k (word l 6)) (mod-eq-of-lt (omega (arith, within-few (groupsIn (word l 5) (word l 6)) (valid-groups (stateIn l) e))))
 
 -- ---- the sender at a place
 

@@ -179,7 +179,7 @@ module _ (w : Receiver) (t : Tables) (g : ℕ) (packet : List ℕ) where
   abbrev heard : Listener
   heard = listening w (headOf packet)
 
-  multicast-above : above 8 (multicastRows w t g packet) ≡ true
+  pub multicast-above : above 8 (multicastRows w t g packet) ≡ true
   unfolding castRows above
   multicast-above = refl
 

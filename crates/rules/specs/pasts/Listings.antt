@@ -2,9 +2,9 @@
 -- were worked out by hand from the sentences that stand above them. Nothing is proved here; `ListingsLaws` computes.
 use Prim.Native.Nat.{ℕ, _+_, _-_, _*_}
 use mathlib.Core.Bool.{Bool, true, false, cond, _&&_}
-use mathlib.Core.List.{List, [], _∷_, _++_}
+use mathlib.Core.List.{List, [], _∷_, _++_, map}
 use lib.Dec.{eqb}
-use lib.ListN.{length, replicate, take}
+use lib.ListN.{length, replicate, set, take}
 use Rattle.octets.specs.Run.{run, laid}
 use Rattle.header.specs.declared.Given.{Given}
 use Rattle.header.specs.Head.{header}
@@ -15,20 +15,22 @@ use Rattle.signal.specs.AlivePlaces.{alivePlace}
 use Rattle.signal.specs.AlivePlaces.AliveField.{alTmOut, alMode, alProtocol, alVer}
 use Rattle.state.specs.declared.Address.{Address}
 use Rattle.answers.specs.declared.Setup.{Setup}
-use Rattle.answers.specs.Told.{MessageTold, ClockTold, QuestionTold, messageTold, callNumber, clockTold, questionTold}
+use Rattle.answers.specs.Told.{MessageTold, GroupTold, ClockTold, QuestionTold, messageTold, groupTold, callNumber, clockTold, questionTold}
+use Rattle.rules.specs.calls.Multicast.{Tables}
 use Rattle.rules.specs.calls.Setup.{setupAnswer}
-use Rattle.rules.specs.pasts.Past.{World, Event, message, alive, clock, aside, question, step, Said, said}
+use Rattle.rules.specs.pasts.Past.{World, Event, message, alive, clock, aside, question, multicast, step, Said, said}
 
 -- ---- what a call is told
 
 -- "P answer verdict held length", with the skipped numbers, the dropped version and number, and the octets themselves
--- for the length; "C answer, dropped map, dead map"; "A answer"; and of the question whether a message is open, its
--- sender and the piece.
+-- for the length; "C answer, dropped map, dead map"; "A answer"; of the question whether a message is open, its sender and
+-- the piece; and to a packet to a group the number, the verdict, the skipped numbers, the octets and the two tables left.
 pub data Line : Type 0 where
   packet-told : (answer verdict skipped held droppedVersion droppedNumber : ℕ) → List ℕ → Line
   clock-told : (answer dropped dead : ℕ) → Line
   alive-told : (answer : ℕ) → Line
   question-told : (answer : ℕ) → Bool → (sender piece : ℕ) → Line
+  group-told : (answer verdict skipped : ℕ) (part versions numbers : List ℕ) → Line
 
 abbrev pub messageLine : MessageTold → List ℕ → Line
 messageLine t part =
@@ -40,11 +42,15 @@ clockLine t = clock-told (t .number) (t .dropped) (t .dead)
 abbrev pub questionLine : QuestionTold → Line
 questionLine t = question-told (t .number) (t .«open») (t .sender) (t .piece)
 
+abbrev pub groupLine : GroupTold → List ℕ → Tables → Line
+groupLine t part left = group-told (t .outcome .number) (t .outcome .verdict) (t .outcome .skipped) part (left .versions) (left .numbers)
+
 abbrev pub line : (e : Event) → Said e → Line
 line (message packet) s = messageLine (messageTold (s .0)) (s .1)
 line (alive packet) s = alive-told (callNumber (s .call))
 line (clock now) s = clockLine (clockTold s)
 line (aside question) s = questionLine (questionTold s)
+line (aside (multicast t g packet)) s = groupLine (groupTold (s .0)) (s .2) (s .1)
 
 -- ---- two lines are the same
 
@@ -60,6 +66,7 @@ numbers (packet-told k v skipped held version number part) = 2 ∷ k ∷ v ∷ s
 numbers (clock-told k dropped dead) = 3 ∷ k ∷ dropped ∷ dead ∷ []
 numbers (alive-told k) = 4 ∷ k ∷ []
 numbers (question-told k so i c) = 5 ∷ k ∷ cond so 1 0 ∷ i ∷ c ∷ []
+numbers (group-told k v skipped part versions seqs) = 6 ∷ k ∷ v ∷ skipped ∷ length part ∷ part ++ length versions ∷ versions ++ seqs
 
 -- ---- a past, and whether the answers are those that stand beside its calls
 
@@ -199,6 +206,41 @@ twelve =
 abbrev pub of64 : ℕ → Event
 of64 c = comes 7 5 100 16448 320 c 64 (replicate 256 c)
 
+-- ---- packets to groups
+
+-- Nodes 7 and 8 are heard by a node in these groups.
+abbrev pub grouped : (mode count : ℕ) → List ℕ → Setup
+grouped mode count numbers = record {
+  mode = mode;
+  n1 = 16;
+  t = 15000;
+  count = 2;
+  senders = address 1 7 ∷ address 1 8 ∷ [];
+  groups = record { count = count; list = map (λ x. record { 0 = x }) numbers };
+}
+
+-- In the groups 9 and 3: 2 × 2 × 8 entries.
+abbrev pub nine-and-three : Setup
+nine-and-three = grouped 0 2 (9 ∷ 3 ∷ [])
+
+abbrev pub empty : (entries : ℕ) → Tables
+empty n = record { versions = replicate n 0; numbers = replicate n 0 }
+
+-- Tables with a version and a number at one place.
+abbrev pub holding : Tables → (place version number : ℕ) → Tables
+holding t k version number = record { versions = set (t .versions) k version; numbers = set (t .numbers) k number }
+
+abbrev pub to-group : Tables → (group : ℕ) → List ℕ → Event
+to-group t g octets = aside (multicast t g octets)
+
+-- A message of one octet.
+abbrev pub casts : Tables → (group node version number pri octet : ℕ) → Event
+casts t g node version number pri octet = to-group t g (packet (given node 65537 version number 1 0 pri) 65 65 1 1 (octet ∷ []))
+
+-- From node 8 to group 3: with a mode, ML, BSIZE, CBN and TBN.
+abbrev pub cut-so : (mode ml bsize cbn tbn : ℕ) → List ℕ → Event
+cut-so mode ml bsize cbn tbn octets = to-group (empty 32) 3 (packet (given 8 65537 5 100 1 mode 5) ml bsize cbn tbn octets)
+
 -- ---- alive signals
 
 -- A PDU with the alive header's fields (5.3) laid down in it; "other places of the alive header may hold anything".
@@ -266,6 +308,12 @@ missing sender piece = question-told 0 true sender piece
 abbrev pub none-open : Line
 none-open = question-told 0 false 0 0
 
+abbrev pub heard : (verdict : ℕ) → List ℕ → Tables → Line
+heard verdict part left = group-told 1 verdict 0 part (left .versions) (left .numbers)
+
+abbrev pub unheard : ℕ → Tables → Line
+unheard k left = group-told k 0 0 [] (left .versions) (left .numbers)
+
 -- ---- the table
 
 pub data Name : Type 0 where
@@ -275,6 +323,7 @@ pub data Name : Type 0 where
   lowest-missing first-open sixteen-senders : Name
   alive-length alive-fields alive-fault seconds alive-stamp dead-by-mode dead-map : Name
   stamp drop-time clock-limits : Name
+  group-setups group-places group-tables group-order : Name
 
 unfoldable pub listings : Name → List Listing
 -- "Input: setup online, N1 16, T 15000, sender field 1 node 7; PDUs of V_SEQ 5, SEQ 100, ML 4564, u 1332, numbers 1, 2,
@@ -707,4 +756,69 @@ listings clock-limits =
     ∷ (clock 1099511627777, C 21 0 0)
     ∷ (clock 1099511627776, C 0 0 0)
     ∷ [])
+    ∷ []
+-- 02, Item 5: "0 to 8 registered groups (0 in the program), numbered 1 to 255"; "10 for groups outside these limits or named
+-- twice". "Places past the count are … never looked at."
+listings group-setups =
+    only (grouped 0 0 []) 0 ∷ only (grouped 0 1 (1 ∷ [])) 0 ∷ only (grouped 0 1 (255 ∷ [])) 0 ∷ only (grouped 0 1 (0 ∷ [])) 10 ∷ only (grouped 0 1 (256 ∷ [])) 10
+    ∷ only (grouped 0 8 (1 ∷ 2 ∷ 3 ∷ 4 ∷ 5 ∷ 6 ∷ 7 ∷ 8 ∷ [])) 0 ∷ only (grouped 0 9 (1 ∷ 2 ∷ 3 ∷ 4 ∷ 5 ∷ 6 ∷ 7 ∷ 8 ∷ 9 ∷ [])) 10
+    ∷ only (grouped 0 8 (1 ∷ 2 ∷ 3 ∷ 4 ∷ 5 ∷ 6 ∷ 7 ∷ 0 ∷ [])) 10 ∷ only (grouped 0 8 (1 ∷ 2 ∷ 3 ∷ 4 ∷ 5 ∷ 6 ∷ 7 ∷ 1 ∷ [])) 10
+    ∷ only (grouped 0 2 (4 ∷ 4 ∷ [])) 10 ∷ only (grouped 0 2 (4 ∷ 5 ∷ 4 ∷ 0 ∷ [])) 0
+    ∷ []
+-- "The last version and number are kept for each sender, group and priority … in that order": "(sender × groups + group) × 8 +
+-- PRI". Node 8, group 3 and PRI 5 have place 29; another PRI, group or sender has another. "A delivery that is not unchecked
+-- writes its version and number into its one entry".
+listings group-places =
+    let one = holding (empty 32) 29 5 100 in
+    past nine-and-three
+    ((casts (empty 32) 3 8 5 100 5 1, heard 1 (1 ∷ []) one)
+    ∷ (casts one 3 8 5 100 5 2, unheard 17 one)
+    ∷ (casts one 3 8 5 85 5 2, unheard 17 one)
+    ∷ (casts one 3 8 5 100 4 3, heard 1 (3 ∷ []) (holding one 28 5 100))
+    ∷ (casts one 9 8 5 100 5 4, heard 1 (4 ∷ []) (holding one 21 5 100))
+    ∷ (casts one 3 7 5 100 5 5, heard 1 (5 ∷ []) (holding one 13 5 100))
+    ∷ (casts one 3 8 5 101 5 6, heard 2 (6 ∷ []) (holding (empty 32) 29 5 101))
+    ∷ (casts one 3 8 6 7 5 7, heard 3 (7 ∷ []) (holding (empty 32) 29 6 7))
+    ∷ (casts one 3 8 5 103 5 8, group-told 1 4 2 (8 ∷ []) (set (replicate 32 0) 29 5) (set (replicate 32 0) 29 103))
+    ∷ (casts one 3 8 0 1 5 9, heard 5 (9 ∷ []) one)
+    ∷ [])
+    ∷ []
+-- "26 a lent table of the wrong size, a SEQ above M, or 0 under a version not 0, before 12": in the first, a middle and the last
+-- entry, none of them the packet's, which has place 29.
+listings group-tables =
+    let short : List ℕ = replicate 31 0 in
+    let right : List ℕ = replicate 32 0 in
+    let long : List ℕ = replicate 33 0 in
+    let wrong : Tables → Event × Line = λ t. (casts t 3 8 5 100 5 1, unheard 26 t) in
+    let passes : Tables → Event × Line = λ t. (casts t 3 8 5 100 5 1, heard 1 (1 ∷ []) (holding t 29 5 100)) in
+    past nine-and-three
+    (wrong (record { versions = short; numbers = right }) ∷ wrong (record { versions = long; numbers = right })
+    ∷ wrong (record { versions = right; numbers = short }) ∷ wrong (record { versions = right; numbers = long })
+    ∷ wrong (holding (empty 32) 0 5 2147483648) ∷ wrong (holding (empty 32) 15 0 2147483648) ∷ wrong (holding (empty 32) 31 5 4294967295)
+    ∷ wrong (holding (empty 32) 0 1 0) ∷ wrong (holding (empty 32) 15 4294967295 0) ∷ wrong (holding (empty 32) 31 5 0)
+    ∷ passes (holding (empty 32) 0 5 2147483647) ∷ passes (holding (empty 32) 15 0 100) ∷ passes (holding (empty 32) 31 5 1)
+    ∷ (to-group (empty 31) 3 [], unheard 26 (empty 31)) ∷ (to-group (empty 32) 3 [], unheard 12 (empty 32))
+    ∷ [])
+    -- With no groups the tables are empty.
+    ∷ past (grouped 0 0 []) ((casts (empty 0) 3 8 5 100 5 1, unheard 25 (empty 0)) ∷ (casts (empty 8) 3 8 5 100 5 1, unheard 26 (empty 8)) ∷ [])
+    ∷ []
+-- "a PDU may be 1,472 octets here"; "25 group not registered, after 14", and before 15; "16 unless CBN = TBN = 1 and p = n".
+listings group-order =
+    let none = empty 32 in
+    let one = holding none 29 5 100 in
+    past nine-and-three
+    ((cut-so 0 1472 1472 1 1 (replicate 1408 4), heard 1 (replicate 1408 4) one)
+    ∷ (cut-so 0 1473 1473 1 1 (replicate 1409 4), unheard 12 none)
+    ∷ (cut-so 0 64 64 1 1 [], heard 1 [] one)
+    ∷ (cut-so 0 64 65 1 1 [], unheard 12 none)
+    ∷ (casts none 3 9 5 0 5 1, unheard 13 none)
+    ∷ (casts none 77 9 5 100 5 1, unheard 14 none)
+    ∷ (casts none 0 8 5 100 5 1, unheard 25 none)
+    ∷ (to-group none 77 (packet (given 8 65537 5 100 1 1 5) 65 65 1 2 (1 ∷ [])), unheard 25 none)
+    ∷ (cut-so 1 65 65 1 2 (1 ∷ []), unheard 15 none)
+    ∷ (cut-so 0 65 65 1 2 (1 ∷ []), unheard 16 none) ∷ (cut-so 0 65 65 2 1 (1 ∷ []), unheard 16 none) ∷ (cut-so 0 65 65 0 1 (1 ∷ []), unheard 16 none)
+    ∷ (cut-so 0 66 65 1 1 (1 ∷ []), unheard 16 none) ∷ (cut-so 0 63 64 1 1 [], unheard 16 none)
+    ∷ (to-group one 3 (packet (given 8 65537 5 100 1 0 5) 66 65 1 1 (1 ∷ [])), unheard 16 one)
+    ∷ [])
+    ∷ past (grouped 1 2 (9 ∷ 3 ∷ [])) ((cut-so 1 65 65 1 1 (1 ∷ []), heard 1 (1 ∷ []) one) ∷ [])
     ∷ []

@@ -2,7 +2,7 @@
 -- definition is refused in a file of its own. Assumes nothing.
 use mathlib.Core.Path.{_≡_}
 use mathlib.Core.Bool.{true}
-use Rattle.rules.specs.pasts.Listings.{all, Name, the-listing, out-of-range, not-registered, setup-limits, refused-setup, mode-as-given, n1-as-given, lowest-number, message-length, packet-length, piece-length, cut-not-possible, number-check, unchecked, any-order, twelve-pieces, sixty-four-pieces, two-senders, empty-part, dropped, newcomer-of-one, open-message, came-round, lowest-missing, first-open, sixteen-senders, alive-length, alive-fields, alive-fault, seconds, alive-stamp, dead-by-mode, dead-map, stamp, drop-time, clock-limits, listings}
+use Rattle.rules.specs.pasts.Listings.{all, Name, the-listing, out-of-range, not-registered, setup-limits, refused-setup, mode-as-given, n1-as-given, lowest-number, message-length, packet-length, piece-length, cut-not-possible, number-check, unchecked, any-order, twelve-pieces, sixty-four-pieces, two-senders, empty-part, dropped, newcomer-of-one, open-message, came-round, lowest-missing, first-open, sixteen-senders, alive-length, alive-fields, alive-fault, seconds, alive-stamp, dead-by-mode, dead-map, stamp, drop-time, clock-limits, group-setups, group-places, group-tables, group-order, listings}
 use Rattle.rules.specs.pasts.listed.Computing.{kept}
 use Rattle.rules.specs.pasts.listed.SetupsLaws.{setup-limits-kept, refused-setup-kept, mode-as-given-kept, n1-as-given-kept}
 use Rattle.rules.specs.pasts.listed.PacketsLaws.{out-of-range-kept, not-registered-kept, lowest-number-kept, message-length-kept, packet-length-kept, piece-length-kept, cut-not-possible-kept}
@@ -11,6 +11,7 @@ use Rattle.rules.specs.pasts.listed.JoinsLaws.{the-listing-kept, any-ord
 use Rattle.rules.specs.pasts.listed.DropsLaws.{dropped-kept, newcomer-of-one-kept, open-message-kept, came-round-kept}
 use Rattle.rules.specs.pasts.listed.SignalsLaws.{sixteen-senders-kept, alive-length-kept, alive-fields-kept, alive-fault-kept, seconds-kept, alive-stamp-kept, dead-by-mode-kept, dead-map-kept}
 use Rattle.rules.specs.pasts.listed.ClocksLaws.{stamp-kept, drop-time-kept, clock-limits-kept}
+use Rattle.rules.specs.pasts.listed.GroupsLaws.{group-setups-kept, group-places-kept, group-tables-kept, group-order-kept}
 use Rattle.rules.specs.pasts.listed.SixtyFourLaws.{sixty-four-pieces-kept}
 
 pub every-listing : (x : Name) → all (listings x) ≡ true
@@ -51,3 +52,7 @@ every-listing dead-map = dead-map-kept
 every-listing stamp = stamp-kept
 every-listing drop-time = drop-time-kept
 every-listing clock-limits = clock-limits-kept
+every-listing group-setups = group-setups-kept
+every-listing group-places = group-places-kept
+every-listing group-tables = group-tables-kept
+every-listing group-order = group-order-kept

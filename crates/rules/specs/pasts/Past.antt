@@ -6,6 +6,7 @@ use mathlib.Core.List.{List, [], _∷_}
 use lib.ListN.{length}
 use Rattle.state.specs.declared.Receiver.{Receiver}
 use Rattle.answers.specs.declared.Answer.{Answer}
+use Rattle.answers.specs.declared.GroupAnswer.{GroupAnswer}
 use Rattle.answers.specs.declared.Missing.{Missing}
 use Rattle.answers.specs.declared.Noted.{Noted}
 use Rattle.answers.specs.declared.Setup.{Setup}
@@ -13,6 +14,7 @@ use Rattle.answers.specs.declared.Ticked.{Ticked}
 use Rattle.rules.specs.calls.Alive.{aliveAnswer}
 use Rattle.rules.specs.calls.Clock.{clockAnswer}
 use Rattle.rules.specs.calls.Message.{area, messageAnswer, messageStorage}
+use Rattle.rules.specs.calls.Multicast.{Tables, multicastAnswer, multicastTables}
 use Rattle.rules.specs.calls.Part.{partOf}
 use Rattle.rules.specs.calls.Question.{questionAnswer}
 use Rattle.rules.specs.calls.Setup.{setupAnswer}
@@ -22,9 +24,11 @@ pub record World : Type 0 where
   pub state : Receiver
   pub storage : List ℕ
 
--- A call that leaves the state and storage as they are. No promise about a sender speaks of one.
+-- A call that leaves the state and storage as they are: the question, and a packet to a group, with the two tables that are
+-- lent for it. No promise about a sender's pieces speaks of one.
 pub data Aside : Type 0 where
   question : Aside
+  multicast : Tables → (group : ℕ) → List ℕ → Aside
 
 -- A call, with any octets or any time.
 pub data Event : Type 0 where
@@ -61,18 +65,25 @@ answerTo w packet = messageAnswer (w .state) (length (w .storage)) packet
 abbrev pub partTo : World → List ℕ → List ℕ
 partTo w packet = partOf (answerTo w packet .lies) packet (messageStorage (w .state) (w .storage) packet)
 
--- A message call says both.
+-- What is answered to a packet to a group, the tables that are left, and the part that is then handed over.
+abbrev pub groupAnswerTo : World → Tables → ℕ → List ℕ → GroupAnswer
+groupAnswerTo w t g packet = multicastAnswer (w .state) t g packet
+
+-- A message call says both, a multicast call all three.
 abbrev pub Said : Event → Type 0
 Said (message packet) = Answer × List ℕ
 Said (alive packet) = Noted
 Said (clock ms) = Ticked
 Said (aside question) = Missing
+Said (aside (multicast t g packet)) = GroupAnswer × Tables × List ℕ
 
 unfoldable pub said : (w : World) (e : Event) → Said e
 said w (message packet) = (answerTo w packet, partTo w packet)
 said w (alive packet) = aliveAnswer (w .state) packet
 said w (clock ms) = clockAnswer (w .state) ms
 said w (aside question) = questionAnswer (w .state)
+said w (aside (multicast t g packet)) =
+    (groupAnswerTo w t g packet, multicastTables (w .state) t g packet, partOf (groupAnswerTo w t g packet .lies) packet (w .storage))
 
 -- What each of the calls says, in the order of time.
 abbrev pub Answers : List Event → Type 0

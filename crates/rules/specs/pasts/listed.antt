@@ -7,4 +7,5 @@ pub mod JoinsLaws
 pub mod DropsLaws
 pub mod SignalsLaws
 pub mod ClocksLaws
+pub mod GroupsLaws
 pub mod SixtyFourLaws

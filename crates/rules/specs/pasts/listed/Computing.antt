@@ -25,6 +25,7 @@ use Rattle.rules.specs.calls.Alive.{aliveHeadWithin, aliveWithin, faultW
 use Rattle.rules.specs.calls.Clock.{aged, agedSenders, mapWhere, ticked, notTicked, clockAnswer}
 use Rattle.rules.specs.calls.First.{first}
 use Rattle.rules.specs.calls.Message.{headWithin, messageRows, storageAfter, withSender, taken, refused, messageAnswer, messageStorage}
+use Rattle.rules.specs.calls.Multicast.{entryPlace, eachEntry, tablesWithin, onePiece, castRows, castOutcome, keptBy, multicastAnswer, multicastTables}
 use Rattle.rules.specs.calls.Part.{storedPart}
 use Rattle.rules.specs.calls.Question.{questionAnswer}
 use Rattle.rules.specs.calls.Setup.{setupWithin, newSenders, setupState, setupAnswer}
@@ -43,4 +44,5 @@ unfolding
     senderRows admitted rejoins sameCut mapAfter keptAfter fills droppedBy senderAfter heldAfter
     aliveHeadWithin aliveWithin faultWithin isSection section? decide judged noneAbove areErrors errorsFrom aliveRows heardBy aliveAnswer
     clockAnswer ticked notTicked agedSenders aged mapWhere questionAnswer
+    entryPlace eachEntry tablesWithin onePiece castRows castOutcome keptBy multicastAnswer multicastTables
 kept x = all (listings x)
