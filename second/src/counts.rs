@@ -5,13 +5,14 @@ use std::collections::BTreeMap;
 use crate::rounds::came_round;
 
 /// How often each kind of line occurred with each number.
-type Counts = BTreeMap<(char, u64), u64>;
+type Counts = BTreeMap<(&'static str, u64), u64>;
 
 /// Reads printed lines, of a run or of the edges, and gives "KIND NUMBER COUNT"
-/// lines, sorted. The kinds are the lines' own letters (A, C, E, F, G, K, P, Q, S,
-/// Z) and V for the verdict of a P line; F is counted under its `next`, E, which
-/// bears no number, under 0. Titles, states, kept counts, the cutter's octets and
-/// parts, of messages and of sections (#, W, w, H, k, R, B, L, O), bear no answer's
+/// lines, sorted. The kinds are the lines' own letters (A, C, E, F, G, K, M, P, Q,
+/// S, Z), V for the verdict of a P line and MV for that of an M line; F is counted
+/// under its `next`, the E that ends a run and bears no number under 0. Titles,
+/// states, kept counts, tables with their entries, the cutter's octets and parts,
+/// of messages and of sections (#, W, w, H, E, e, k, R, B, L, O), bear no answer's
 /// number and are passed over.
 pub fn counts(lines: &str) -> Result<String, String> {
     Ok(written(&counted(lines)?))
@@ -22,7 +23,7 @@ pub fn counts(lines: &str) -> Result<String, String> {
 pub fn counts_of_calls(fields: &[u8], lines: &str) -> Result<String, String> {
     let mut counts = counted(lines)?;
     for answer in came_round(fields, lines)? {
-        *counts.entry(('N', answer)).or_default() += 1;
+        *counts.entry(("N", answer)).or_default() += 1;
     }
     Ok(written(&counts))
 }
@@ -39,13 +40,16 @@ fn counted(lines: &str) -> Result<Counts, String> {
 }
 
 fn written(counts: &Counts) -> String {
-    let line = |((kind, number), count): (&(char, u64), &u64)| format!("{kind} {number} {count}\n");
-    counts.iter().map(line).collect()
+    let lines = counts
+        .iter()
+        .map(|((kind, number), count)| format!("{kind} {number} {count}\n"));
+    lines.collect()
 }
 
-/// What one line counts for; None where it is not one of the program's lines.
-/// A P line has 4 numbers in a run, 9 among the edges.
-fn kinds_of(line: &str) -> Option<Vec<(char, u64)>> {
+/// What one line counts for; None where it is not one of the program's lines. A P
+/// line has 4 numbers in a run, 9 among the edges; an E line none in a run, where
+/// it ends it, and one among the edges, where it tells how many entries are in use.
+fn kinds_of(line: &str) -> Option<Vec<(&'static str, u64)>> {
     if line.starts_with("# ") {
         return Some(Vec::new());
     }
@@ -53,26 +57,28 @@ fn kinds_of(line: &str) -> Option<Vec<(char, u64)>> {
     let kind = words.next()?;
     let numbers: Vec<u64> = words.map(|word| word.parse().ok()).collect::<Option<_>>()?;
     match (kind, &numbers[..]) {
-        ("S", [answer]) => Some(vec![('S', *answer)]),
+        ("S", [answer]) => Some(vec![("S", *answer)]),
         ("P", [answer, verdict, _, _] | [answer, verdict, _, _, _, _, _, _, _]) => {
-            Some(vec![('P', *answer), ('V', *verdict)])
+            Some(vec![("P", *answer), ("V", *verdict)])
         }
-        ("C", [answer, _, _]) => Some(vec![('C', *answer)]),
-        ("A", [answer]) => Some(vec![('A', *answer)]),
-        ("Q", [answer, _, _, _, _]) => Some(vec![('Q', *answer)]),
-        ("W", state) if state.len() == 5 => Some(Vec::new()),
+        ("C", [answer, _, _]) => Some(vec![("C", *answer)]),
+        ("A", [answer]) => Some(vec![("A", *answer)]),
+        ("Q", [answer, _, _, _, _]) => Some(vec![("Q", *answer)]),
+        ("M", [answer, verdict, _, _, _, _, _]) => Some(vec![("M", *answer), ("MV", *verdict)]),
+        ("E", [_]) | ("e", [_, _, _]) => Some(Vec::new()),
+        ("W", state) if state.len() == 14 => Some(Vec::new()),
         ("w", sender) if sender.len() == 18 => Some(Vec::new()),
         ("H", [_]) => Some(Vec::new()),
-        ("K", [answer, _, _, _]) => Some(vec![('K', *answer)]),
+        ("K", [answer, _, _, _]) => Some(vec![("K", *answer)]),
         ("k", octets) if octets.len() == 64 => Some(Vec::new()),
         ("R", [_, _]) => Some(Vec::new()),
-        ("F", [next, _, _, _]) => Some(vec![('F', *next)]),
+        ("F", [next, _, _, _]) => Some(vec![("F", *next)]),
         ("G", [answer, counts_and_name @ ..]) if counts_and_name.len() == 11 => {
-            Some(vec![('G', *answer)])
+            Some(vec![("G", *answer)])
         }
         ("B", [_]) | ("L" | "O", [_, _]) => Some(Vec::new()),
-        ("Z", [answer, _, _, _]) => Some(vec![('Z', *answer)]),
-        ("E", []) => Some(vec![('E', 0)]),
+        ("Z", [answer, _, _, _]) => Some(vec![("Z", *answer)]),
+        ("E", []) => Some(vec![("E", 0)]),
         _ => None,
     }
 }
@@ -91,12 +97,23 @@ mod tests {
     #[test]
     fn counts_the_lines_of_the_edges() {
         let lines = "# 1.1 A title: P 1\nP 1 4 0 10 2 0 0 7 9\nP 9 0 0 0 0 0 0 7 7\nQ 9 0 0 0 0\n\
-                     Q 0 1 0 2 2\nW 0 16 15000 0 1\nw 0 1 7 0 0 0 0 0 0 0 0 0 0 0 0 0 0 0\n";
+                     Q 0 1 0 2 2\nW 0 16 15000 0 1 2 5 1 0 0 0 0 0 0\nw 0 1 7 0 0 0 0 0 0 0 0 0 0 0 0 0 0 0\n";
         let expected = "P 1 1\nP 9 1\nQ 0 1\nQ 9 1\nV 0 1\nV 4 1\n";
         assert_eq!(counts(lines).unwrap(), expected);
         let held = "H 0\nH 63\nH 255\n";
         assert_eq!(counts(&[lines, held].concat()).unwrap(), expected);
         assert_eq!(counts(held).unwrap(), "");
+    }
+
+    #[test]
+    fn counts_multicast_calls_and_passes_over_tables() {
+        let lines = "M 1 4 10 2 9 9 9\nM 26 0 0 0 7 7 7\nM 1 1 0 0 7 9 9\nE 0\nE 1\ne 8 5 100\n";
+        let expected = "M 1 2\nM 26 1\nMV 0 1\nMV 1 1\nMV 4 1\n";
+        assert_eq!(counts(lines).unwrap(), expected);
+        // Behind M and MV, in the order of the kinds.
+        let with_others = [lines, "P 1 1 0 10\nK 0 64 9 7\nE\n"].concat();
+        let expected = ["E 0 1\nK 0 1\n", expected, "P 1 1\nV 1 1\n"].concat();
+        assert_eq!(counts(&with_others).unwrap(), expected);
     }
 
     #[test]
@@ -132,8 +149,20 @@ mod tests {
 
     #[test]
     fn tells_the_number_of_a_wrong_line() {
-        let runs = ["P 1 1 0", "Q 1", "S", "S x", "", "C 0 0 0 0", "E 1", "S  0"];
+        let runs = ["P 1 1 0", "Q 1", "S", "S x", "", "C 0 0 0 0", "E x", "S  0"];
         let edges = ["P 1 1 0 0 0 0 0 7", "#", "W 0 16 15000 0", "w 0 1 7", "W"];
+        let multicast = [
+            "M 1 1 0 0 7 7",
+            "M 1 1 0 0 7 7 7 7",
+            "m 1 1 0 0 7 7 7",
+            "M",
+            "MV 1",
+            "E 1 2",
+            "e 8 5",
+            "e 8 5 100 0",
+            "W 0 16 15000 0 1",
+            "W 0 16 15000 0 1 0 0 0 0 0 0 0 0",
+        ];
         let more = [
             "H",
             "H 0 0",
@@ -152,7 +181,7 @@ mod tests {
             "O 1",
             "Z 0 20 9",
         ];
-        for wrong in [&runs[..], &edges, &more].concat() {
+        for wrong in [&runs[..], &edges, &multicast, &more].concat() {
             let lines = format!("S 0\n{wrong}\n");
             assert!(
                 counts(&lines).unwrap_err().starts_with("line 2:"),

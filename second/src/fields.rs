@@ -5,7 +5,7 @@ use crate::alive::alive;
 use crate::clock::clock;
 use crate::octets;
 use crate::receiver::{message, part};
-use crate::state::{setup, Receiver, Setup, AREA};
+use crate::state::{setup, Groups, Receiver, Setup, AREA};
 
 pub const TAG_SETUP: u8 = 1;
 pub const TAG_MESSAGE: u8 = 2;
@@ -83,7 +83,8 @@ fn reader_of<'a>(tag: u8, length: usize) -> Option<Reader<'a>> {
 }
 
 /// 01: "Tag 1 setup: mode (1 octet: 0 online, 1 test, any other meets 10), N1
-/// (2), T (4), then data field (1) and node (2) for each of 1 to 4 senders."
+/// (2), T (4), then data field (1) and node (2) for each of 1 to 4 senders." 02:
+/// "0 to 8 registered groups (0 in the program)".
 fn setup_of(contents: &[u8]) -> Setup {
     Setup {
         mode: contents[0],
@@ -93,6 +94,7 @@ fn setup_of(contents: &[u8]) -> Setup {
             .chunks_exact(3)
             .map(|sender| (sender[0], octets::read(sender, 1, 2) as u16))
             .collect(),
+        groups: Groups::default(),
     }
 }
 
@@ -182,7 +184,7 @@ pub fn field(tag: u8, contents: &[u8]) -> Option<Vec<u8>> {
     Some(field)
 }
 
-/// The contents of a setup field.
+/// The contents of a setup field, in which there are no groups.
 pub fn setup_contents(setup: &Setup) -> Vec<u8> {
     let mut contents = vec![setup.mode];
     contents.extend(setup.n1.to_be_bytes());
@@ -207,6 +209,7 @@ mod tests {
             n1: 16,
             t: 15_000,
             senders: vec![(1, 7)],
+            groups: Groups::default(),
         };
         assert_eq!(field(1, &setup_contents(&expected)).unwrap(), SETUP);
         assert_eq!(one(&SETUP), (Field::Setup(expected), &[][..]));

@@ -15,6 +15,7 @@ pub mod edges;
 pub mod fault;
 pub mod fields;
 pub mod header;
+pub mod multicast;
 pub mod numbers;
 pub mod octets;
 pub mod random;

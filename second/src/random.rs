@@ -7,7 +7,7 @@ use crate::fields::{
 };
 use crate::scenes;
 use crate::stage::Stage;
-use crate::state::{Receiver, Setup};
+use crate::state::{Groups, Receiver, Setup};
 
 /// Writes a capture field by field.
 struct Author {
@@ -71,6 +71,11 @@ impl Stage for Author {
     /// "for each of 1 to 4 senders."
     fn senders_most(&self) -> u64 {
         4
+    }
+
+    /// 02: "0 to 8 registered groups (0 in the program)".
+    fn groups(&mut self) -> Groups {
+        Groups::default()
     }
 
     fn setup(&mut self, wanted: &Setup) {

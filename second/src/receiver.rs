@@ -117,8 +117,8 @@ fn length_wrong(arrival: &Arrival) -> bool {
 }
 
 /// "13 | a fixed field of 5.1, PRI, MODE, code, or SEQ (0 or above M; [...]) out
-/// of range". "Code in 13 means not a user code".
-fn head_out_of_range(head: &Head) -> bool {
+/// of range". "Code in 13 means not a user code". Multicast has the same.
+pub fn head_out_of_range(head: &Head) -> bool {
     !header::fixed_fields_right(head)
         || !header::pri_right(head.pri)
         || !header::mode_right(head.mode)

@@ -20,7 +20,7 @@ type Open = BTreeMap<(u8, u16), (u32, u32)>;
 pub fn came_round(fields: &[u8], lines: &str) -> Result<Vec<u64>, String> {
     let mut lines = lines
         .lines()
-        .filter(|line| !line.starts_with(['#', 'w', 'k']));
+        .filter(|line| !line.starts_with(['#', 'w', 'k', 'e']));
     let (mut open, mut answers) = (Open::new(), Vec::new());
     let mut rest = fields;
     while let Some((tag, contents, behind)) = first_field(rest) {

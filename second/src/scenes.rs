@@ -79,7 +79,7 @@ impl Plan {
 }
 
 /// The number `steps` after `seq` on the ring 1 to M.
-fn after(seq: u32, steps: u64) -> u32 {
+pub fn after(seq: u32, steps: u64) -> u32 {
     ((u64::from(seq) - 1 + steps) % u64::from(M) + 1) as u32
 }
 
@@ -98,7 +98,7 @@ fn get(pdu: &[u8], place: Place) -> u64 {
 
 // ---- what the scenes share ----
 
-fn any_seq(dice: &mut Dice) -> u32 {
+pub fn any_seq(dice: &mut Dice) -> u32 {
     let far = dice.between(1, M.into()) as u32;
     dice.one_of(&[1, 2, 3, 100, 5_000, far, far, far, M - 1, M])
 }
@@ -255,8 +255,8 @@ pub fn tick(stage: &mut dyn Stage, ms: u64) {
 
 // ---- setups ----
 
-fn good_setup(stage: &mut dyn Stage) -> Setup {
-    let most = stage.senders_most();
+pub fn good_setup(stage: &mut dyn Stage) -> Setup {
+    let (most, groups) = (stage.senders_most(), stage.groups());
     let dice = stage.dice();
     let count = dice.between(1, most) as usize;
     let mut senders = Vec::new();
@@ -273,6 +273,7 @@ fn good_setup(stage: &mut dyn Stage) -> Setup {
         n1: dice.one_of(&[1, 2, 16, 16, 16, 100, 1_024]),
         t: dice.one_of(&[1, 2, 1_000, 15_000, 15_000, 600_000]),
         senders,
+        groups,
     }
 }
 
@@ -814,7 +815,7 @@ fn damage_alive(dice: &mut Dice, pdu: &mut Vec<u8>) {
 }
 
 /// Another length, with BSIZE and ML to match it.
-fn resize(pdu: &mut Vec<u8>, length: usize) {
+pub fn resize(pdu: &mut Vec<u8>, length: usize) {
     pdu.resize(length, 0);
     put(pdu, header::BSIZE, length as u64);
     put(pdu, header::ML, length as u64);

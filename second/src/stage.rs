@@ -2,7 +2,7 @@
 //! calls.
 
 use crate::dice::Dice;
-use crate::state::{Receiver, Setup};
+use crate::state::{Groups, Receiver, Setup};
 
 /// A past that goes on call by call. Each call is also made, so that a scene can
 /// look at the state that its next call will meet.
@@ -14,6 +14,9 @@ pub trait Stage {
 
     /// How many senders a setup may have here.
     fn senders_most(&self) -> u64;
+
+    /// The groups of a good setup.
+    fn groups(&mut self) -> Groups;
 
     fn setup(&mut self, wanted: &Setup);
     fn message(&mut self, packet: &[u8]);

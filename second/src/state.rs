@@ -10,6 +10,8 @@ use crate::numbers;
 pub const AREA: usize = 16_384;
 /// 01: "1 to 16 senders".
 pub const SENDERS_MOST: usize = 16;
+/// 02: "0 to 8 registered groups".
+pub const GROUPS_MOST: usize = 8;
 /// 01: "whole ms, 0 to 1,099,511,627,776".
 pub const CLOCK_MOST: u64 = 1_099_511_627_776;
 
@@ -63,6 +65,35 @@ impl Sender {
     }
 }
 
+/// 02: "0 to 8 registered groups (0 in the program), numbered 1 to 255": how many,
+/// and eight places. Those past the count are written 0 and never looked at.
+#[derive(Clone, Copy, Debug, Default, PartialEq, Eq)]
+pub struct Groups {
+    pub count: u8,
+    pub places: [u8; GROUPS_MOST],
+}
+
+impl Groups {
+    /// The groups within the count. There is no place past the eighth, whatever the
+    /// count says.
+    pub fn registered(&self) -> &[u8] {
+        &self.places[..usize::from(self.count).min(GROUPS_MOST)]
+    }
+
+    /// The group's place in the order of setup, from 0, if it is registered.
+    pub fn place_of(&self, group: u8) -> Option<usize> {
+        self.registered().iter().position(|place| *place == group)
+    }
+
+    /// The same groups, with 0 in each place past the count.
+    fn written(&self) -> Groups {
+        let mut places = [0; GROUPS_MOST];
+        let registered = self.registered();
+        places[..registered.len()].copy_from_slice(registered);
+        Groups { places, ..*self }
+    }
+}
+
 /// The whole state of one raft or shore desk.
 #[derive(Clone, Debug, PartialEq, Eq)]
 pub struct Receiver {
@@ -71,11 +102,12 @@ pub struct Receiver {
     pub t: u32,
     pub clock: u64,
     pub senders: Vec<Sender>,
+    pub groups: Groups,
 }
 
 impl Receiver {
     /// 01: "An empty state, with no senders, is what a refused setup returns
-    /// (online, N1 1, T 1)".
+    /// (online, N1 1, T 1)". It has no groups either.
     pub fn empty() -> Receiver {
         Receiver {
             test: false,
@@ -83,6 +115,7 @@ impl Receiver {
             t: 1,
             clock: 0,
             senders: Vec::new(),
+            groups: Groups::default(),
         }
     }
 
@@ -108,7 +141,7 @@ impl Receiver {
 
 /// What setup takes: "the node's mode (online or test), N1 (1 to 1,024), the
 /// drop time T in ms (1 to 600,000) and 1 to 16 senders, each a data field and
-/// a node".
+/// a node"; and by 02 the groups.
 #[derive(Clone, Debug, PartialEq, Eq)]
 pub struct Setup {
     /// "0 online, 1 test, any other meets 10".
@@ -116,6 +149,7 @@ pub struct Setup {
     pub n1: u16,
     pub t: u32,
     pub senders: Vec<(u8, u16)>,
+    pub groups: Groups,
 }
 
 /// Setup. "10 | setup outside its limits | empty state".
@@ -129,6 +163,7 @@ pub fn setup(setup: &Setup) -> (u8, Receiver) {
         t: setup.t,
         clock: 0,
         senders: setup.senders.iter().map(unheard).collect(),
+        groups: setup.groups.written(),
     };
     (STORED, receiver)
 }
@@ -144,7 +179,11 @@ fn unheard(&(field, node): &(u8, u16)) -> Sender {
 }
 
 fn setup_right(setup: &Setup) -> bool {
-    setup.mode <= 1 && n1_right(setup.n1) && t_right(setup.t) && senders_right(&setup.senders)
+    setup.mode <= 1
+        && n1_right(setup.n1)
+        && t_right(setup.t)
+        && senders_right(&setup.senders)
+        && groups_right(&setup.groups)
 }
 
 /// 01: "N1 (1 to 1,024)".
@@ -170,12 +209,23 @@ fn senders_right(senders: &[(u8, u16)]) -> bool {
     (1..=SENDERS_MOST).contains(&senders.len()) && each_right && no_pair_twice
 }
 
+/// 02: "10 for groups outside these limits or named twice".
+fn groups_right(groups: &Groups) -> bool {
+    let registered = groups.registered();
+    let none_twice = registered
+        .iter()
+        .enumerate()
+        .all(|(i, group)| !registered[..i].contains(group));
+    usize::from(groups.count) <= GROUPS_MOST && !registered.contains(&0) && none_twice
+}
+
 /// Whether the state is inside the limits; where it is not, 9 is given: "a
 /// state with a setting, sender, time, last number, open SEQ or open code
 /// outside this paper's limits, a stamp after the clock, last number 0 under a
 /// version not 0, or an open message with an impossible cut or a map that is
 /// empty, full or marked past TBN". And by 02, of the number kept and the number
-/// of ones in the map: "a state where they differ meets 9".
+/// of ones in the map: "a state where they differ meets 9". Groups that setup would
+/// refuse are "a setting [...] outside" its limits.
 pub fn within_limits(receiver: &Receiver) -> bool {
     settings_right(receiver)
         && receiver.clock <= CLOCK_MOST
@@ -185,19 +235,22 @@ pub fn within_limits(receiver: &Receiver) -> bool {
             .all(|sender| sender_right(sender, receiver.clock))
 }
 
-/// The settings and the table of senders, as setup limits them. Of the states
-/// without senders only the empty one passes: "9 lets it pass".
+/// The settings, the table of senders and the groups, as setup limits them. Of the
+/// states without senders only the empty one passes: "9 lets it pass".
 fn settings_right(receiver: &Receiver) -> bool {
     if receiver.senders.is_empty() {
-        let empty = Receiver::empty();
-        return (receiver.test, receiver.n1, receiver.t) == (empty.test, empty.n1, empty.t);
+        let settings = |state: &Receiver| (state.test, state.n1, state.t, state.groups.count);
+        return settings(receiver) == settings(&Receiver::empty());
     }
     let pairs: Vec<(u8, u16)> = receiver
         .senders
         .iter()
         .map(|sender| (sender.field, sender.node))
         .collect();
-    n1_right(receiver.n1) && t_right(receiver.t) && senders_right(&pairs)
+    n1_right(receiver.n1)
+        && t_right(receiver.t)
+        && senders_right(&pairs)
+        && groups_right(&receiver.groups)
 }
 
 fn sender_right(sender: &Sender, clock: u64) -> bool {
@@ -272,7 +325,15 @@ mod tests {
             n1: 16,
             t: 15_000,
             senders: vec![(1, 7), (2, 9)],
+            groups: groups(3, &[5, 1, 255]),
         }
+    }
+
+    /// So many groups, and what stands in the first places.
+    fn groups(count: u8, first: &[u8]) -> Groups {
+        let mut places = [0; 8];
+        places[..first.len()].copy_from_slice(first);
+        Groups { count, places }
     }
 
     /// The setup's number; a refused one gives the empty state.
@@ -337,6 +398,102 @@ mod tests {
         assert_eq!(number(&|s| s.senders[1] = (1, 7)), 10);
         assert_eq!(number(&|s| s.senders[1] = (1, 8)), 0);
         assert_eq!(number(&|s| s.senders[1] = (2, 7)), 0);
+    }
+
+    #[test]
+    fn row_10_how_many_groups() {
+        let eight = [1, 2, 3, 4, 5, 6, 7, 8];
+        let with = |count: u8| number(&|s| s.groups = groups(count, &eight));
+        assert_eq!((with(0), with(1), with(7), with(8)), (0, 0, 0, 0));
+        assert_eq!((with(9), with(10), with(128), with(255)), (10, 10, 10, 10));
+        assert_eq!(number(&|s| s.groups = groups(9, &[])), 10);
+    }
+
+    #[test]
+    fn row_10_groups_0_1_and_255_in_each_place() {
+        for place in 0..8 {
+            let with = |group: u8| {
+                number(&|s| {
+                    s.groups = groups(8, &[11, 12, 13, 14, 15, 16, 17, 18]);
+                    s.groups.places[place] = group;
+                })
+            };
+            assert_eq!((with(0), with(1), with(255)), (10, 0, 0), "place {place}");
+        }
+        let one = |group: u8| number(&|s| s.groups = groups(1, &[group]));
+        assert_eq!((one(0), one(1), one(255)), (10, 0, 0));
+    }
+
+    #[test]
+    fn row_10_a_group_twice_in_any_two_places() {
+        for one in 0..8 {
+            for other in (0..8).filter(|other| *other != one) {
+                let with = |count: u8| {
+                    number(&|s| {
+                        s.groups = groups(count, &[11, 12, 13, 14, 15, 16, 17, 18]);
+                        s.groups.places[one] = s.groups.places[other];
+                    })
+                };
+                assert_eq!(with(8), 10, "places {one} and {other}");
+                // The later of the two, and what is behind it, past the count.
+                assert_eq!(with(one.max(other) as u8), 0, "places {one} and {other}");
+            }
+        }
+    }
+
+    /// Only those past the count: 0 is none, and twice is not.
+    #[test]
+    fn places_past_the_count_are_not_looked_at_and_written_0() {
+        for count in 0..8 {
+            for past in [0, 1, 255] {
+                let mut wanted = good();
+                wanted.groups = groups(count, &[1, 2, 3, 4, 5, 6, 7, 8]);
+                wanted.groups.places[count.into()..].fill(past);
+                let (number, state) = setup(&wanted);
+                assert_eq!(number, 0);
+                let within = usize::from(count);
+                assert_eq!(state.groups.count, count);
+                assert_eq!(
+                    state.groups.places[..within],
+                    wanted.groups.places[..within]
+                );
+                assert!(state.groups.places[within..]
+                    .iter()
+                    .all(|place| *place == 0));
+            }
+        }
+        assert_eq!(setup(&good()).1.groups, groups(3, &[5, 1, 255]));
+        assert_eq!(Receiver::empty().groups, groups(0, &[]));
+    }
+
+    #[test]
+    fn row_10_groups_beside_other_reasons() {
+        let with = |count: u8, change: &dyn Fn(&mut Setup)| {
+            number(&|s| {
+                s.groups = groups(count, &[5]);
+                change(s);
+            })
+        };
+        for count in [0, 1, 2, 9] {
+            assert_eq!(with(count, &|s| s.n1 = 0), 10);
+            assert_eq!(with(count, &|s| s.senders.clear()), 10);
+            assert_eq!(with(count, &|s| s.mode = 2), 10);
+        }
+        assert_eq!((with(1, &|_| ()), with(2, &|_| ())), (0, 10));
+    }
+
+    #[test]
+    fn groups_by_their_places() {
+        let three = groups(3, &[5, 1, 255, 7, 0]);
+        assert_eq!(three.registered(), [5, 1, 255]);
+        assert_eq!(
+            [5, 1, 255].map(|group| three.place_of(group)),
+            [Some(0), Some(1), Some(2)]
+        );
+        assert_eq!([0, 2, 7].map(|group| three.place_of(group)), [None; 3]);
+        // There is no place past the eighth.
+        assert_eq!(groups(255, &[1, 2, 3, 4, 5, 6, 7, 8]).registered().len(), 8);
+        assert_eq!(groups(0, &[5]).place_of(5), None);
     }
 
     /// A state with everything in use: Figure 54's message open with pieces 1
@@ -433,7 +590,34 @@ mod tests {
             n1: 2,
             ..empty.clone()
         }));
-        assert!(!within_limits(&Receiver { t: 2, ..empty }));
+        assert!(!within_limits(&Receiver {
+            t: 2,
+            ..empty.clone()
+        }));
+        let with = |groups: Groups| {
+            within_limits(&Receiver {
+                groups,
+                ..empty.clone()
+            })
+        };
+        assert!(with(groups(0, &[])) && with(groups(0, &[5, 5, 0, 5])));
+        assert!(!with(groups(1, &[5])) && !with(groups(8, &[1, 2, 3, 4, 5, 6, 7, 8])));
+        assert!(!with(groups(1, &[0])) && !with(groups(9, &[])));
+    }
+
+    #[test]
+    fn row_9_groups() {
+        let eight = [1, 2, 3, 4, 5, 6, 7, 8];
+        let with = |count: u8, first: &[u8]| passes(&|r| r.groups = groups(count, first));
+        assert!(with(0, &[]) && with(1, &[1]) && with(1, &[255]) && with(8, &eight));
+        assert!(!with(9, &eight) && !with(10, &eight) && !with(255, &eight));
+        assert!(!with(1, &[0]) && !with(3, &[0, 1, 2]) && !with(3, &[1, 0, 2]));
+        assert!(!with(3, &[1, 2, 0]) && !with(8, &[1, 2, 3, 4, 5, 6, 7, 0]));
+        assert!(!with(2, &[7, 7]) && !with(3, &[7, 8, 7]) && !with(3, &[8, 7, 7]));
+        assert!(!with(8, &[1, 2, 3, 4, 5, 6, 7, 1]));
+        // Past the count stands anything.
+        assert!(with(0, &[7, 7, 0, 7]) && with(1, &[7, 7, 0, 7]) && with(2, &[7, 8, 8, 0]));
+        assert!(with(7, &[1, 2, 3, 4, 5, 6, 7, 7]) && with(7, &[1, 2, 3, 4, 5, 6, 7, 0]));
     }
 
     #[test]

@@ -7,7 +7,7 @@ use crate::fields::{field, setup_contents, TAG_ALIVE, TAG_CLOCK, TAG_MESSAGE, TA
 use crate::header::{self, Head, Place, HEADER};
 use crate::octets;
 use crate::section_text::section_of;
-use crate::state::Setup;
+use crate::state::{Groups, Setup};
 
 /// The longest message or piece that a text can write: a PDU's two-octet length
 /// has no room for more.
@@ -159,6 +159,7 @@ fn setup_field(words: &[&str]) -> Result<Vec<u8>, String> {
         n1: values.u16("n1", 16)?,
         t: values.u32("t", 15_000)?,
         senders: senders_of(values.take("senders").unwrap_or(""))?,
+        groups: Groups::default(),
     };
     values.finish()?;
     whole_field(TAG_SETUP, &setup_contents(&setup))

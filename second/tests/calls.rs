@@ -33,15 +33,18 @@ fn tags(fields: &[Field]) -> String {
 fn room(tag: char) -> (usize, usize) {
     match tag {
         '#' => (1, 100),
-        // 1 + 2 + 4 + 1, and 1 + 2 for each of 16 places.
-        'S' | 's' => (56, 56),
-        'P' | 'p' => (4, 4 + 1_461),
+        // 1 + 2 + 4 + 1, 1 + 2 for each of 16 places, 1 and 8 for the groups.
+        'S' | 's' => (65, 65),
+        'P' | 'p' => (4, 4 + 1_472),
         // 128 and up to 1,348 octets behind them.
         'A' | 'a' => (127, 1_476),
         'C' | 'c' => (8, 8),
-        'Q' | 'W' => (0, 0),
+        'Q' | 'W' | 'E' => (0, 0),
         'H' => (1, 1),
-        't' => (16, 16),
+        // 1 + 2 + 4 + 8 + 1, and the groups.
+        't' => (25, 25),
+        'M' | 'm' => (5, 5 + 2_000),
+        'e' => (10, 10),
         'r' => (58, 58),
         'K' => (29, 29 + 20_000),
         'R' => (21, 21 + 74),
@@ -63,14 +66,16 @@ fn each_field_has_its_shape() {
     }
 }
 
-/// Each line but w and k is of one field, and each field with `#` or a capital
+/// Each line but w, k and e is of one field, and each field with `#` or a capital
 /// prints one line, which begins with its tag.
 #[test]
 fn each_field_that_prints_has_its_line() {
     let printing = fields().iter().filter(|(tag, _)| !tag.is_lowercase());
     let printing: String = printing.map(|(tag, _)| *tag).collect();
     let lines = second::edges::lines();
-    let lines = lines.lines().filter(|line| !line.starts_with(['w', 'k']));
+    let lines = lines
+        .lines()
+        .filter(|line| !line.starts_with(['w', 'k', 'e']));
     let letters: String = lines.filter_map(|line| line.chars().next()).collect();
     assert_eq!(printing.len(), letters.len());
     assert_eq!(printing, letters);
@@ -125,7 +130,8 @@ fn damage_is_written_between_the_calls() {
 
 // Some fields, octet by octet.
 
-/// Mode, N1, T, count, then places 0 and 1; place i from 2 is (1 + i):(7 + i).
+/// Mode, N1, T, count, then places 0 and 1; place i from 2 is (1 + i):(7 + i). There
+/// are no groups.
 fn setup_by_hand(first: [u8; 8], second: [u8; 3]) -> Vec<u8> {
     let mut expected = first.to_vec();
     expected.extend([1, 0, 7]);
@@ -133,6 +139,7 @@ fn setup_by_hand(first: [u8; 8], second: [u8; 3]) -> Vec<u8> {
     expected.extend([3, 0, 9, 4, 0, 10, 5, 0, 11, 6, 0, 12, 7, 0, 13]);
     expected.extend([8, 0, 14, 9, 0, 15, 10, 0, 16, 11, 0, 17, 12, 0, 18]);
     expected.extend([13, 0, 19, 14, 0, 20, 15, 0, 21, 16, 0, 22]);
+    expected.extend([0; 9]);
     expected
 }
 
@@ -177,18 +184,23 @@ fn damaged_settings_octet_by_octet() {
     // fresh, a row of 8 fields, then rows of 9; the damage is each one's fifth.
     let damage = |row: usize| rows[1 + 8 + (row - 2) * 9 + 4].clone();
     let n1_0 = [0, 0, 0, 0, 0, 58, 152, 0, 0, 0, 0, 0, 0, 3, 232, 2];
-    assert_eq!(damage(2), ('t', n1_0.to_vec()));
+    assert_eq!(damage(2), ('t', without_groups(n1_0)));
     let late = [0, 0, 16, 0, 0, 58, 152, 0, 0, 1, 0, 0, 0, 0, 1, 2];
-    assert_eq!(damage(6), ('t', late.to_vec()));
+    assert_eq!(damage(6), ('t', without_groups(late)));
     let seventeen = [0, 0, 16, 0, 0, 58, 152, 0, 0, 0, 0, 0, 0, 3, 232, 17];
-    assert_eq!(damage(7), ('t', seventeen.to_vec()));
+    assert_eq!(damage(7), ('t', without_groups(seventeen)));
     let nobody = section("8.4 No senders");
     // fresh, then rows of 7; 0 senders at clock 0.
     assert_eq!(nobody[2].1[..3], [0, 0, 0]);
     let empty = [0, 0, 1, 0, 0, 0, 1, 0, 0, 0, 0, 0, 0, 0, 0, 0];
-    assert_eq!(nobody[3], ('t', empty.to_vec()));
+    assert_eq!(nobody[3], ('t', without_groups(empty)));
     let test = [1, 0, 1, 0, 0, 0, 1, 0, 0, 0, 0, 0, 0, 0, 0, 0];
-    assert_eq!(nobody[10], ('t', test.to_vec()));
+    assert_eq!(nobody[10], ('t', without_groups(test)));
+}
+
+/// Settings, time and count, and behind them 0 groups and eight times 0.
+fn without_groups(settings: [u8; 16]) -> Vec<u8> {
+    [&settings[..], &[0; 9]].concat()
 }
 
 /// The busy sender 0 with tcd 60000 (234 x 256 + 96), and 8.3's place 2.
@@ -226,7 +238,7 @@ fn held_calls_octet_by_octet() {
     assert_eq!(rows[rows.len() - 7], ('r', expected.clone()));
     assert_eq!(rows[1 + 10 + 8 * 11 + 4], ('r', expected));
     let three = [0, 0, 16, 0, 0, 58, 152, 0, 0, 0, 0, 0, 0, 3, 232, 3];
-    assert_eq!(rows[rows.len() - 8], ('t', three.to_vec()));
+    assert_eq!(rows[rows.len() - 8], ('t', without_groups(three)));
 }
 
 /// cut_with(SEQ, 305419896) and the part whose end is above 2^64.
@@ -304,6 +316,57 @@ fn written_sections_octet_by_octet() {
     let mut short = vec![0, 19, 0, 0, 0, 0, 0, 0, 0, 0];
     short.extend([65, 66, 67, 68, 69, 70, 71, 72]);
     assert_eq!(section("13.9 What is written")[1], ('Z', short));
+}
+
+/// `ready()`: the base, and groups 5, 1, 255; and 14.1's row with 255 of them.
+#[test]
+fn groups_octet_by_octet() {
+    let mut ready = setup_by_hand([0, 0, 16, 0, 0, 58, 152, 2], [2, 0, 9]);
+    ready.splice(56.., [3, 5, 1, 255, 0, 0, 0, 0, 0]);
+    let rows = section("14.10 Lengths of a multicast PDU");
+    assert_eq!(rows[1], ('s', ready));
+    let mut many = setup_by_hand([0, 0, 16, 0, 0, 58, 152, 2], [2, 0, 9]);
+    many.splice(56.., [255, 1, 2, 3, 4, 5, 6, 7, 8]);
+    let rows = section("14.1 Groups of a setup");
+    assert_eq!(tags(&rows), ["s", &"S".repeat(53)].concat());
+    assert_eq!(rows[5], ('S', many));
+    // Clock 1000 is 3 x 256 + 232.
+    let mut damage = vec![0, 0, 16, 0, 0, 58, 152, 0, 0, 0, 0, 0, 0, 3, 232, 2];
+    damage.extend([9, 5, 1, 255, 0, 0, 0, 0, 0]);
+    let rows = section("14.3 Groups of a damaged state");
+    assert_eq!(tags(&rows), ["s", &"scaptPACQM".repeat(29)].concat());
+    assert_eq!(rows[1 + 10 + 4], ('t', damage));
+}
+
+/// number(5, 100) to group 1 with 47 entries of the versions; and an entry.
+#[test]
+fn multicast_calls_octet_by_octet() {
+    let rows = section("14.8 Two numbers at once");
+    let mut expected = vec![0, 47, 0, 48, 1, 78, 85, 88, 77, 0, 0, 0, 74, 0, 1, 0, 7];
+    expected.extend([0, 1, 0, 1, 0, 0, 0, 5, 0, 0, 0, 100, 128, 0, 0, 0]);
+    expected.extend([0; 12]);
+    expected.extend([0, 1, 0, 0, 0, 0, 0, 0, 0, 0, 0, 0, 0, 0, 1, 0, 1, 1, 0, 74]);
+    expected.extend([0; 4]);
+    expected.extend([100, 107, 114, 121, 128, 135, 142, 149, 156, 163]);
+    assert_eq!(tags(&rows[..7]), "ssMsMse");
+    assert_eq!(rows[2], ('M', expected.clone()));
+    (expected[1], expected[3]) = (48, 47);
+    assert_eq!(rows[4], ('M', expected));
+    assert_eq!(rows[6], ('e', vec![0, 20, 0, 0, 0, 5, 128, 0, 0, 0]));
+    let rows = section("14.2 What setup returns of groups");
+    assert_eq!(
+        tags(&rows),
+        ["s", &"SW".repeat(6), &"eeeESE".repeat(4), "W"].concat()
+    );
+    // 1039 is 4 x 256 + 15.
+    assert_eq!(rows[15], ('e', vec![4, 15, 0, 0, 0, 6, 0, 0, 0, 0]));
+    // 1024 entries of each, sender 16:22, PRI 7, group 128.
+    let last = &section("14.18 Sixteen senders and eight groups")[9].1;
+    assert_eq!(last[..5], [4, 0, 4, 0, 128]);
+    assert_eq!((last[14], &last[15..17], last[60]), (16, &[0, 22][..], 7));
+    // What prints nothing before the call.
+    let rows = section("14.17 What a refusal leaves of the tables");
+    assert_eq!(tags(&rows[1..6]), "smmME");
 }
 
 /// "such a program needs nothing of this page but "The calls as fields"".

@@ -22,11 +22,17 @@ fn section(title: &str) -> Vec<String> {
         .collect()
 }
 
-/// A line without the two sums of a P line.
+/// "groups g1 g2 ... g8" of a state without groups, as all states are before
+/// section 14.
+const NO_GROUPS: &str = " 0 0 0 0 0 0 0 0 0";
+
+/// A line without the two sums of a P line; of a W line that ends in no groups, what
+/// stands before them.
 fn without_sums(line: &str) -> String {
     let words: Vec<&str> = line.split(' ').collect();
     match words[0] {
         "P" => words[..8].join(" "),
+        "W" if words.len() == 15 => line.strip_suffix(NO_GROUPS).unwrap_or(line).to_string(),
         _ => line.to_string(),
     }
 }

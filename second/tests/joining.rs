@@ -4,7 +4,7 @@ mod common;
 
 use common::{figure_54, octet, octets, receiver, Message, M};
 use second::receiver::{message, part, question, Answer, MessageAnswer, Where};
-use second::state::{setup, OpenMessage, Receiver, Setup};
+use second::state::{setup, Groups, OpenMessage, Receiver, Setup};
 use second::tally::{counted_message, Tally};
 
 /// A receiver with its storage, whose octets are not 0 at the beginning.
@@ -352,6 +352,7 @@ fn n1_of_the_setup_is_the_one_used() {
             n1,
             t: 1,
             senders: vec![(1, 7)],
+            groups: Groups::default(),
         };
         let mut desk = Desk {
             receiver: setup(&wanted).1,

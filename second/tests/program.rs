@@ -166,6 +166,8 @@ fn edges_then_tally_reach_every_number() {
         ("S", &[0, 10][..]),
         ("P", &[0, 1, 9, 11, 12, 13, 14, 15, 16, 17, 18, 19, 20]),
         ("V", &[0, 1, 2, 3, 4, 5]),
+        ("M", &[1, 9, 12, 13, 14, 15, 16, 17, 25, 26]),
+        ("MV", &[0, 1, 2, 3, 4, 5]),
         ("N", &[0, 1, 18]),
         ("A", &[0, 9, 12, 13, 14, 22, 24]),
         ("C", &[0, 9, 21]),
@@ -190,7 +192,7 @@ fn edges_then_tally_reach_every_number() {
 fn edges_calls_begin_with_the_first_title() {
     let calls = second(&["edges-calls"], b"");
     assert_eq!(calls.status.code(), Some(0));
-    assert!(calls.stdout.starts_with(b"#\x00\x091.1 Setups\x00\x38"));
+    assert!(calls.stdout.starts_with(b"#\x00\x091.1 Setups\x00\x41"));
 }
 
 #[test]

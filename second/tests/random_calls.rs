@@ -57,7 +57,9 @@ fn the_fields_alone_give_the_same_lines() {
 }
 
 /// Every answer of each kind of line, every verdict, and numbers that came round.
-const REACHED: [(&str, &[u8]); 10] = [
+const REACHED: [(&str, &[u8]); 12] = [
+    ("M", &[1, 9, 12, 13, 14, 15, 16, 17, 25, 26]),
+    ("MV", &[0, 1, 2, 3, 4, 5]),
     ("S", &[0, 10]),
     ("P", &[0, 1, 9, 11, 12, 13, 14, 15, 16, 17, 18, 19, 20]),
     ("V", &[0, 1, 2, 3, 4, 5]),
@@ -85,9 +87,9 @@ fn every_number_and_verdict_is_reached_by_any_seed() {
     }
 }
 
-/// The clauses of 01's row 9 and the one that 02 adds, by the names that the
-/// titles have.
-const CLAUSES: [&str; 19] = [
+/// The clauses of 01's row 9 and those that 02 adds, by the names that the titles
+/// have.
+const CLAUSES: [&str; 22] = [
     "N1",
     "T",
     "data field",
@@ -107,6 +109,17 @@ const CLAUSES: [&str; 19] = [
     "map full",
     "map marked past TBN",
     "held count",
+    "more than 8 groups",
+    "group 0",
+    "a group twice",
+];
+
+/// The reasons of 02's row 26, by the names that the titles have.
+const REASONS: [&str; 4] = [
+    "versions table",
+    "SEQ table",
+    "SEQ above M",
+    "SEQ 0 under a version not 0",
 ];
 
 /// The numbers of the lines of calls under each title, in order; W, w and k lines
@@ -116,7 +129,7 @@ fn numbers_under_titles(lines: &str) -> Vec<(&str, Vec<(char, u8)>)> {
     for line in lines.lines() {
         if let Some(title) = line.strip_prefix("# ") {
             found.push((title, Vec::new()));
-        } else if line.starts_with(['P', 'A', 'C', 'Q', 'S']) {
+        } else if line.starts_with(['P', 'A', 'C', 'Q', 'M', 'S']) {
             let number = line.split(' ').nth(1).unwrap().parse().unwrap();
             let letter = line.chars().next().unwrap();
             found.last_mut().unwrap().1.push((letter, number));
@@ -131,8 +144,8 @@ fn each_clause_alone_is_answered_with_9() {
     let mut seen: BTreeMap<&str, usize> = BTreeMap::new();
     for (title, numbers) in numbers_under_titles(&printed) {
         if let Some(clause) = title.strip_prefix("9 alone: ") {
-            let expected = [('P', 9), ('A', 9), ('C', 9), ('Q', 9)];
-            if numbers.len() == 4 {
+            let expected = [('P', 9), ('A', 9), ('C', 9), ('Q', 9), ('M', 9)];
+            if numbers.len() == 5 {
                 *seen.entry(clause).or_default() += 1;
             }
             assert_eq!(numbers, expected[..numbers.len()], "{title}");
@@ -143,14 +156,14 @@ fn each_clause_alone_is_answered_with_9() {
     assert_eq!(seen.into_keys().collect::<Vec<_>>(), clauses);
 }
 
-/// The same four calls on the mended state give 0 or 1: only the damage was wrong.
+/// The same five calls on the mended state give 0 or 1: only the damage was wrong.
 #[test]
 fn the_same_calls_are_good_once_the_state_is_mended() {
     let printed = lines(1, COUNT);
     let mut mended = 0;
     for (title, numbers) in numbers_under_titles(&printed) {
         if title.starts_with("mended: ") {
-            let good = numbers.iter().take(4).all(|(_, number)| *number <= 1);
+            let good = numbers.iter().take(5).all(|(_, number)| *number <= 1);
             assert!(good, "{title}: {numbers:?}");
             mended += 1;
         }
@@ -176,8 +189,83 @@ fn nine_comes_before_every_other_number() {
             *seen.entry(number).or_default() += 1;
         }
     }
-    let numbers: Vec<u8> = (11..=22).chain([24]).collect();
+    let numbers: Vec<u8> = (11..=22).chain(24..=26).collect();
     assert_eq!(seen.into_keys().collect::<Vec<_>>(), numbers);
+}
+
+/// 26 by each of its reasons, and 1 once the tables are mended, also behind a setup.
+#[test]
+fn each_reason_alone_is_answered_with_26() {
+    let printed: String = (1..=3).map(|seed| lines(seed, COUNT)).collect();
+    let (mut alone, mut mended) = (BTreeMap::new(), BTreeMap::new());
+    for (title, numbers) in numbers_under_titles(&printed) {
+        // What follows the first line under "26 mended" is of the next scene.
+        if let (Some(reason), false) = (title.strip_prefix("26 alone: "), numbers.is_empty()) {
+            assert_eq!(numbers, [('M', 26)], "{title}");
+            *alone.entry(reason).or_insert(0) += 1;
+        }
+        if let Some(reason) = title.strip_prefix("26 mended: ") {
+            match numbers[..] {
+                [('S', 0), ('M', 1), ..] => *mended.entry((reason, "setup")).or_insert(0) += 1,
+                [('M', 1), ..] => *mended.entry((reason, "entry")).or_insert(0) += 1,
+                _ => assert!(numbers.len() < 2, "{title}: {numbers:?}"),
+            }
+        }
+    }
+    for reason in REASONS {
+        assert!(alone[reason] > 3, "{reason}");
+        assert!(mended[&(reason, "setup")] > 0 && mended[&(reason, "entry")] > 0);
+    }
+    assert_eq!(alone.len(), REASONS.len());
+}
+
+#[test]
+fn twenty_six_comes_before_every_other_number() {
+    let printed: String = (1..=3).map(|seed| lines(seed, COUNT)).collect();
+    let mut seen: BTreeMap<u8, usize> = BTreeMap::new();
+    for (title, numbers) in numbers_under_titles(&printed) {
+        let Some((number, reason)) = title
+            .strip_prefix("26 and ")
+            .and_then(|t| t.split_once(": "))
+        else {
+            continue;
+        };
+        assert!(REASONS.contains(&reason), "{title}");
+        let number: u8 = number.parse().unwrap();
+        if numbers.len() == 2 {
+            assert_eq!(numbers, [('M', number), ('M', 26)], "{title}");
+            *seen.entry(number).or_default() += 1;
+        }
+    }
+    let numbers = [12, 13, 14, 15, 16, 17, 25];
+    assert_eq!(seen.into_keys().collect::<Vec<_>>(), numbers);
+}
+
+/// Groups of every number, tables of sixteen senders and eight groups, multicast
+/// messages of 0 and of 1,408 octets, and messages of both kinds of the same sender,
+/// version and number.
+#[test]
+fn groups_and_multicast_calls_of_every_kind_occur() {
+    let fields: Vec<_> = (1..=3)
+        .flat_map(|seed| read(&calls_as_fields(seed, COUNT)))
+        .collect();
+    let of = |letter: char| fields.iter().filter(move |(tag, _)| *tag == letter);
+    for count in 0..=9 {
+        assert!(of('S').any(|(_, c)| c[56] == count), "{count} groups");
+    }
+    assert!(of('M').any(|(_, c)| c[..2] == c[2..4] && c[0] >= 1));
+    let lengths: Vec<usize> = of('M').map(|(_, c)| c.len() - 5).collect();
+    for length in [64, 1_460, 1_461, 1_472, 1_473] {
+        assert!(lengths.contains(&length), "{length}");
+    }
+    // Data field, node, V_SEQ and SEQ.
+    let named = |pdu: &[u8]| {
+        pdu.get(9..24)
+            .map(|octets| [&octets[..3], &octets[7..]].concat())
+    };
+    let peers: Vec<_> = of('P').filter_map(|(_, c)| named(&c[4..])).collect();
+    let both = of('M').filter_map(|(_, c)| named(&c[5..]));
+    assert!(both.filter(|name| peers.contains(name)).count() > 50);
 }
 
 /// Drops and deaths by the clock, sixteen senders, and messages of 16,384 octets,

@@ -549,7 +549,8 @@ fn twenty_four_and_other_numbers() {
 /// A W line at clock 600, and whether each sender is alive, since when, how long.
 fn shown(first: &str, second: &str) -> String {
     let nothing = "0 0 0 0 0 0 0 0 0 0 0 0";
-    format!("W 0 16 15000 600 2\nw 0 1 7 {nothing} {first}\nw 1 2 9 {nothing} {second}\n")
+    let none = "0 0 0 0 0 0 0 0 0";
+    format!("W 0 16 15000 600 2 {none}\nw 0 1 7 {nothing} {first}\nw 1 2 9 {nothing} {second}\n")
 }
 
 #[test]
@@ -572,6 +573,6 @@ fn sections_in_every_mode() {
 fn sections_at_the_empty_state() {
     let mut expected = vec!["S 10".to_string()];
     expected.extend(heard([14; 4]));
-    expected.push("W 0 1 1 0 0".into());
+    expected.push("W 0 1 1 0 0 0 0 0 0 0 0 0 0 0".into());
     expect("7.10 Sections at the empty state", expected);
 }

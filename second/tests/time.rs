@@ -7,7 +7,7 @@ use common::{alive_of_node_2, figure_54, lay, receiver, sample_of_e_3_2};
 use second::alive::alive;
 use second::clock::clock;
 use second::receiver::message;
-use second::state::{setup, OpenMessage, Receiver, Setup, CLOCK_MOST};
+use second::state::{setup, Groups, OpenMessage, Receiver, Setup, CLOCK_MOST};
 
 /// An alive signal of node 2 with this al_mode and al_tm_out.
 fn signal(mode: u8, seconds: u32) -> Vec<u8> {
@@ -126,6 +126,7 @@ fn opened(t: u32) -> Receiver {
         n1: 16,
         t,
         senders: vec![(1, 2), (1, 7)],
+        groups: Groups::default(),
     };
     let mut state = setup(&wanted).1;
     let mut storage = vec![0; 2 * 16_384];

@@ -4,7 +4,7 @@
 use super::table::values_of;
 use crate::cut::HeaderValues;
 use crate::fault::Parts;
-use crate::state::{Receiver, Sender, Setup, SENDERS_MOST};
+use crate::state::{Groups, Receiver, Sender, Setup, SENDERS_MOST};
 
 /// Numbers behind one another, each in so many octets.
 fn numbers(sized: &[(usize, u64)]) -> Vec<u8> {
@@ -17,8 +17,9 @@ fn numbers(sized: &[(usize, u64)]) -> Vec<u8> {
     sized.iter().flat_map(octets_of).collect()
 }
 
-/// "setup: mode (1), n1 (2), t (4), count (1), then data field (1) and node (2)
-/// of all 16 places." Also "A count above 16 is written with the 16 places."
+/// "setup: mode (1), n1 (2), t (4), count (1), data field (1) and node (2) of all 16
+/// places, number of groups (1), the eight group places (1 each)". Also "A count
+/// above 16 is written with the 16 places."
 pub fn setup(wanted: &Setup, places: &[(u8, u16)]) -> Vec<u8> {
     assert_eq!(places.len(), SENDERS_MOST);
     let mut contents = numbers(&[
@@ -30,7 +31,13 @@ pub fn setup(wanted: &Setup, places: &[(u8, u16)]) -> Vec<u8> {
     for (field, node) in places {
         contents.extend(numbers(&[(1, (*field).into()), (2, (*node).into())]));
     }
+    contents.extend(groups(&wanted.groups));
     contents
+}
+
+/// "number of groups (1), the eight group places (1 each)".
+fn groups(groups: &Groups) -> Vec<u8> {
+    [&[groups.count][..], &groups.places].concat()
 }
 
 /// "message call: how many octets of the storage are lent (4), then the PDU, as
@@ -39,16 +46,31 @@ pub fn message(lent: usize, packet: &[u8]) -> Vec<u8> {
     [&numbers(&[(4, lent as u64)]), packet].concat()
 }
 
-/// "damage: test (1), n1 (2), t (4), clock (8), count (1) of the state in use
-/// become these".
+/// "damage: test (1), n1 (2), t (4), clock (8), count (1), number of groups (1), the
+/// eight group places (1 each) of the state in use become these".
 pub fn settings(state: &Receiver) -> Vec<u8> {
-    numbers(&[
+    let mut contents = numbers(&[
         (1, state.test.into()),
         (2, state.n1.into()),
         (4, state.t.into()),
         (8, state.clock),
         (1, state.senders.len() as u64),
-    ])
+    ]);
+    contents.extend(groups(&state.groups));
+    contents
+}
+
+/// "multicast call: how many entries of the versions are lent (2), how many of the
+/// numbers (2), the group (1), then the PDU, as many octets as are lent".
+pub fn multicast(lent: [usize; 2], group: u8, packet: &[u8]) -> Vec<u8> {
+    let [versions, seqs] = lent.map(|entries| entries as u64);
+    let before = numbers(&[(2, versions), (2, seqs), (1, group.into())]);
+    [&before, packet].concat()
+}
+
+/// "damage of an entry: place (2), version (4), number (4)".
+pub fn entry(place: usize, version: u32, number: u32) -> Vec<u8> {
+    numbers(&[(2, place as u64), (4, version.into()), (4, number.into())])
 }
 
 /// Octets of each value of a record: "place (1), field (1), node (2), rv (4),

@@ -3,15 +3,15 @@
 //! limits, a stamp after the clock, last number 0 under a version not 0, or an
 //! open message with an impossible cut or a map that is empty, full or marked
 //! past TBN"; and 02's, of the kept count and the number of ones in the map: "a
-//! state where they differ meets 9".
+//! state where they differ meets 9", and of groups that setup would refuse.
 
 use crate::dice::Dice;
 use crate::numbers::M;
-use crate::state::{full_map, OpenMessage, Receiver, Sender, CLOCK_MOST};
+use crate::state::{full_map, Groups, OpenMessage, Receiver, Sender, CLOCK_MOST, GROUPS_MOST};
 
 /// One clause: its name, and a damage that brings a state outside it. The place
 /// is that of a sender that is alive and has an open message, in a state within
-/// its limits with at least two senders.
+/// its limits with at least two senders and one group.
 pub struct Clause {
     pub name: &'static str,
     pub damage: fn(&mut Receiver, usize, &mut Dice),
@@ -21,7 +21,7 @@ const fn clause(name: &'static str, damage: fn(&mut Receiver, usize, &mut Dice))
     Clause { name, damage }
 }
 
-pub const CLAUSES: [Clause; 19] = [
+pub const CLAUSES: [Clause; 22] = [
     clause("N1", |state, _, dice| {
         state.n1 = dice.one_of(&[0, 1_025, u16::MAX])
     }),
@@ -73,6 +73,12 @@ pub const CLAUSES: [Clause; 19] = [
         set_map(open, open.map | past)
     }),
     clause("held count", held_count),
+    clause("more than 8 groups", more_than_8_groups),
+    clause("group 0", |state, _, dice| {
+        let place = dice.below(state.groups.count.into()) as usize;
+        state.groups.places[place] = 0;
+    }),
+    clause("a group twice", a_group_twice),
 ];
 
 fn any_sender<'a>(state: &'a mut Receiver, dice: &mut Dice) -> &'a mut Sender {
@@ -111,16 +117,40 @@ fn more_than_16_senders(state: &mut Receiver, _: usize, dice: &mut Dice) {
     state.senders.extend(unheard.take(more));
 }
 
-/// Of the states without senders only the empty one passes, "online, N1 1, T 1".
+/// Of the states without senders only the empty one passes, "online, N1 1, T 1", and
+/// it has no groups.
 fn no_senders(state: &mut Receiver, _: usize, dice: &mut Dice) {
     state.senders.clear();
+    let (groups, none) = (state.groups, Groups::default());
     let others = [
-        (true, 1, 1),
-        (false, 2, 1),
-        (false, 1, 2),
-        (false, 16, 15_000),
+        (true, 1, 1, none),
+        (false, 2, 1, none),
+        (false, 1, 2, none),
+        (false, 16, 15_000, none),
+        (false, 1, 1, groups),
+        (false, 16, 15_000, groups),
     ];
-    (state.test, state.n1, state.t) = dice.one_of(&others);
+    (state.test, state.n1, state.t, state.groups) = dice.one_of(&others);
+}
+
+/// The count alone is outside: all eight places hold groups, and none stands twice.
+fn more_than_8_groups(state: &mut Receiver, _: usize, dice: &mut Dice) {
+    let mut groups = state.groups.registered().to_vec();
+    let others = (1..=255).filter(|group| state.groups.place_of(*group).is_none());
+    groups.extend(others.take(GROUPS_MOST - groups.len()));
+    state.groups.places.copy_from_slice(&groups);
+    state.groups.count = dice.one_of(&[9, 10, 255]);
+}
+
+/// Behind a single group there is room for it once more.
+fn a_group_twice(state: &mut Receiver, _: usize, dice: &mut Dice) {
+    let groups = &mut state.groups;
+    groups.count = groups.count.max(2);
+    let count = u64::from(groups.count);
+    let (one, steps) = (dice.below(count), dice.between(1, count - 1));
+    let other = (one + steps) % count;
+    let twice = groups.places[one.min(other) as usize];
+    groups.places[one.max(other) as usize] = twice;
 }
 
 /// Too few, too many, none, and as many as an octet can say.
@@ -154,6 +184,10 @@ mod tests {
             n1: 16,
             t: 15_000,
             senders: vec![(1, 7), (2, 9), (3, 9)],
+            groups: Groups {
+                count: 3,
+                places: [5, 1, 255, 0, 0, 0, 0, 0],
+            },
         };
         let mut state = setup(&wanted).1;
         state.clock = 1_000;

@@ -8,9 +8,12 @@ use super::table::senders;
 use crate::state::{OpenMessage, Receiver, Sender, AREA};
 
 pub fn sections(past: &mut Past) {
-    one_value_changed(past);
-    cut_and_map(past);
-    never_looked_at(past);
+    past.section("8.1 One value changed");
+    one_value_changed(past, row);
+    past.section("8.2 Cut and map of the open message");
+    cut_and_map(past, row);
+    past.section("8.3 What is never looked at");
+    never_looked_at(past, row);
     no_senders(past);
     written_over(past);
     count_of_damaged_states(past);
@@ -20,6 +23,11 @@ pub fn sections(past: &mut Past) {
 /// nothing": sender 0 is open with piece 2 held, and alive.
 fn make_busy(past: &mut Past) {
     past.fresh();
+    heard_and_open(past);
+}
+
+/// What is made behind the setup.
+pub fn heard_and_open(past: &mut Past) {
     past.quietly(|past| {
         past.clock(1_000);
         past.alive(1, 7, 1, 60);
@@ -28,7 +36,7 @@ fn make_busy(past: &mut Past) {
 }
 
 /// The four calls, good but for the state.
-fn four_calls(past: &mut Past, lent: usize) {
+pub fn four_calls(past: &mut Past, lent: usize) {
     let packet = pdu::piece([1, 7, 5, 100, 1, 4_500, 1_332, 1]);
     past.message_lent(lent, &packet);
     past.alive(1, 7, 1, 60);
@@ -36,17 +44,20 @@ fn four_calls(past: &mut Past, lent: usize) {
     past.ask();
 }
 
-/// One row. "The message call is lent exactly 32,768 octets of storage in 8.1 to
-/// 8.3, whatever the count says".
-fn row(past: &mut Past, damage: impl Fn(&mut Past)) {
+/// Makes one row of what it changes.
+pub type Row = fn(&mut Past, &dyn Fn(&mut Past));
+
+/// "The message call is lent exactly 32,768 octets of storage in 8.1 to 8.3,
+/// whatever the count says".
+fn row(past: &mut Past, damage: &dyn Fn(&mut Past)) {
     make_busy(past);
     damage(past);
     four_calls(past, 2 * AREA);
 }
 
-/// Changes settings, time or count of the state in use; the field bears all of
-/// them.
-fn change_state(past: &mut Past, change: impl Fn(&mut Receiver)) {
+/// Changes settings, time, count or groups of the state in use; the field bears all
+/// of them.
+pub fn change_state(past: &mut Past, change: impl Fn(&mut Receiver)) {
     change(&mut past.receiver);
     past.write('t', &calls::settings(&past.receiver));
 }
@@ -106,14 +117,14 @@ const SENDER_CHANGES: [SenderChange; 16] = [
     (0, |sender| sender.message.held = 255),
 ];
 
-fn one_value_changed(past: &mut Past) {
-    past.section("8.1 One value changed");
-    row(past, |_| ());
+/// The rows of 8.1.
+pub fn one_value_changed(past: &mut Past, row: Row) {
+    row(past, &|_| ());
     for change in STATE_CHANGES {
-        row(past, |past| change_state(past, change));
+        row(past, &|past| change_state(past, change));
     }
     for (place, change) in SENDER_CHANGES {
-        row(past, |past| change_sender(past, place, change));
+        row(past, &|past| change_sender(past, place, change));
     }
 }
 
@@ -141,26 +152,25 @@ const CUTS_AND_MAPS: [(u16, u8, u16, u64, u8); 19] = [
 ];
 
 /// 9, of "an open message with an impossible cut or a map that is empty, full or
-/// marked past TBN", and where the kept count is not that of the map's ones.
-fn cut_and_map(past: &mut Past) {
-    past.section("8.2 Cut and map of the open message");
+/// marked past TBN", and where the kept count is not that of the map's ones: the
+/// rows of 8.2.
+pub fn cut_and_map(past: &mut Past, row: Row) {
     for (n, tbn, u, map, held) in CUTS_AND_MAPS {
         let change = |sender: &mut Sender| {
             let open = &mut sender.message;
             (open.n, open.tbn, open.u) = (n, tbn, u);
             (open.map, open.held) = (map, held);
         };
-        row(past, |past| change_sender(past, 0, change));
+        row(past, &|past| change_sender(past, 0, change));
     }
 }
 
 /// 01: "The record of a message not open, the stamp and al_tm_out of a sender not
-/// alive, and places past the senders are [...] never looked at."
-fn never_looked_at(past: &mut Past) {
-    past.section("8.3 What is never looked at");
-    row(past, |past| change_sender(past, 0, not_open));
-    row(past, |past| change_sender(past, 1, not_alive));
-    row(past, a_place_past_the_senders);
+/// alive, and places past the senders are [...] never looked at." The rows of 8.3.
+pub fn never_looked_at(past: &mut Past, row: Row) {
+    row(past, &|past| change_sender(past, 0, not_open));
+    row(past, &|past| change_sender(past, 1, not_alive));
+    row(past, &a_place_past_the_senders);
 }
 
 fn not_open(sender: &mut Sender) {

@@ -1,11 +1,12 @@
 //! The library's calls as a stage for the scenes: each is made and kept, with up
 //! to 16 senders.
 
+use super::cast_scenes::{cast_anywhere, cast_between};
 use super::past::Past;
 use crate::dice::Dice;
 use crate::scenes;
 use crate::stage::Stage;
-use crate::state::{Receiver, Setup, AREA, SENDERS_MOST};
+use crate::state::{Groups, Receiver, Setup, AREA, GROUPS_MOST, SENDERS_MOST};
 
 /// The library's calls, made and kept.
 pub struct Library {
@@ -26,6 +27,21 @@ impl Stage for Library {
         SENDERS_MOST as u64
     }
 
+    /// 0 to 8 of them, none twice; past the count stands anything.
+    fn groups(&mut self) -> Groups {
+        let dice = &mut self.dice;
+        let any = dice.below(GROUPS_MOST as u64 + 1) as u8;
+        let count = dice.one_of(&[0, 1, 2, 3, 8, any, any]);
+        let mut groups = Groups {
+            count,
+            places: [0; GROUPS_MOST].map(|_| dice.one_of(&[0, 0, 1, 5, 255])),
+        };
+        for at in 0..usize::from(count) {
+            groups.places[at] = self.another_group(&groups.places[..at]);
+        }
+        groups
+    }
+
     /// A refused setup leaves the empty state: some calls meet it, then a good
     /// setup follows, since the scenes need senders.
     fn setup(&mut self, wanted: &Setup) {
@@ -37,8 +53,12 @@ impl Stage for Library {
         }
     }
 
+    /// Now and then a group gets the same packet.
     fn message(&mut self, packet: &[u8]) {
         self.past.message(packet);
+        if self.dice.one_in(10) {
+            cast_anywhere(self, packet);
+        }
         self.look();
     }
 
@@ -66,8 +86,19 @@ impl Library {
         places
     }
 
-    /// The question and a kept count after every few calls, and the state now and
-    /// then.
+    /// A group that is none of these.
+    pub fn another_group(&mut self, taken: &[u8]) -> u8 {
+        loop {
+            let any = self.dice.between(1, 255) as u8;
+            let group = self.dice.one_of(&[1, 2, 3, 5, 9, 128, 200, 254, 255, any]);
+            if !taken.contains(&group) {
+                return group;
+            }
+        }
+    }
+
+    /// The question, a kept count and a multicast call after every few calls, the
+    /// state and the tables now and then.
     fn look(&mut self) {
         if self.dice.one_in(4) {
             self.past.ask();
@@ -75,8 +106,14 @@ impl Library {
         if self.dice.one_in(4) {
             self.held_somewhere();
         }
+        if self.dice.one_in(8) {
+            cast_between(self);
+        }
         if self.dice.one_in(40) {
             self.past.show();
+        }
+        if self.dice.one_in(80) {
+            self.past.tables();
         }
     }
 
@@ -134,6 +171,9 @@ impl Library {
         scenes::tick(self, ms);
         self.past.ask();
         self.held_somewhere();
+        cast_between(self);
+        let lent = self.dice.one_of(&[[1, 0], [0, 1], [8, 8]]);
+        self.past.multicast_lent(lent, 1, &nobody);
         self.past.show();
     }
 }

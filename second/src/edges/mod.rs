@@ -8,13 +8,19 @@
 mod alive_and_clock;
 mod alive_sections;
 mod calls;
+mod cast_calls;
+mod cast_scenes;
+mod casting;
 mod clauses;
 mod coming_round;
 mod cutting;
 mod damage;
+mod entries;
 mod fault_calls;
 mod fault_scenes;
+mod groups;
 mod joining;
+mod lent_tables;
 mod library;
 mod many_senders;
 mod nine;
@@ -28,6 +34,7 @@ mod section;
 mod section_rows;
 mod single;
 mod table;
+mod table_scenes;
 mod writing;
 
 use past::Past;
@@ -55,5 +62,9 @@ fn every_section() -> Past {
     parts_and_fields::sections(&mut past);
     reading::sections(&mut past);
     writing::sections(&mut past);
+    groups::sections(&mut past);
+    lent_tables::sections(&mut past);
+    casting::sections(&mut past);
+    entries::sections(&mut past);
     past
 }

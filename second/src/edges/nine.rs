@@ -5,35 +5,39 @@
 //! - under "9 alone: CLAUSE" all lines of calls that judge 9 give 9;
 //! - under "9 and NUMBER: CLAUSE" stand two lines of the same call, NUMBER before
 //!   the damage and 9 after it;
-//! - under "mended: CLAUSE" stand first the calls of "9 alone" once more, without
-//!   the damage, and give 0 or 1.
+//! - under "mended: CLAUSE" stand first the five calls of "9 alone" once more,
+//!   without the damage, and give 0 or 1.
 //!
 //! On every damaged state stand held calls too, which judge no 9.
 
+use super::cast_scenes::{self, set_up_until, Cast};
 use super::clauses::{Clause, CLAUSES};
 use super::library::Library;
+use super::table_scenes::{self, wrong_size};
 use crate::alive::{self, alive};
 use crate::clock::clock;
 use crate::header;
 use crate::receiver::message;
 use crate::scenes::{self, before, put, Plan};
-use crate::state::{Receiver, AREA, CLOCK_MOST, SENDERS_MOST};
+use crate::state::{AREA, CLOCK_MOST, SENDERS_MOST};
 
-/// Each clause once, in random order.
+/// Each clause once, in random order, and each other number.
 pub fn damaged_states(library: &mut Library) {
     let mut order: Vec<&Clause> = CLAUSES.iter().collect();
     library.dice.shuffle(&mut order);
-    for clause in order {
-        let busy = make_busy(library);
+    let mut numbers = OTHERS;
+    library.dice.shuffle(&mut numbers);
+    for (clause, number) in order.into_iter().zip(numbers.into_iter().cycle()) {
+        let busy = make_busy(library, number == 15);
         alone(library, clause, &busy);
-        let number = library.dice.one_of(&OTHERS);
         together(library, clause, &busy, number);
         library.past.title(&format!("mended: {}", clause.name));
         good_calls(library, &busy);
     }
 }
 
-/// A sender that is alive and has an open message, and good calls for it.
+/// A sender that is alive and has an open message, and good calls for it. Its next
+/// message to a group follows one that was delivered.
 struct Busy {
     at: usize,
     plan: Plan,
@@ -41,16 +45,21 @@ struct Busy {
     missing: usize,
     signal: Vec<u8>,
     now: u64,
+    cast: Cast,
 }
 
-/// At least two senders, one of which is heard and opens a message, ten numbers
-/// after its last one, so that there is room for an older one.
-fn make_busy(library: &mut Library) -> Busy {
-    while library.past.receiver.senders.len() < 2 {
-        scenes::new_setup(library);
-    }
+/// At least two senders and a group, at an online node if 15 is wanted of it. One of
+/// the senders is heard and opens a message, ten numbers after its last one, so that
+/// there is room for an older one.
+fn make_busy(library: &mut Library, online: bool) -> Busy {
+    set_up_until(library, |state| {
+        let tables = state.senders.len() >= 2 && state.groups.count > 0;
+        tables && !(online && state.test)
+    });
     let (at, plan, pieces) = scenes::open_one(library, 10);
     scenes::hear(library, at, 1, 60);
+    let spot = cast_scenes::spot_of(library, at);
+    cast_scenes::settle(library, spot);
     Busy {
         at,
         plan,
@@ -58,6 +67,7 @@ fn make_busy(library: &mut Library) -> Busy {
         missing: pieces[pieces.len() - 1],
         signal: scenes::good_alive(library, at, 1, 60),
         now: library.past.receiver.clock,
+        cast: cast_scenes::following(library, spot, 1),
     }
 }
 
@@ -70,6 +80,7 @@ fn good_calls(library: &mut Library, busy: &Busy) {
     past.alive_call(&busy.signal);
     past.clock(busy.now);
     past.ask();
+    past.multicast(busy.cast.group, &busy.cast.pdu());
 }
 
 /// Damages the state, makes the calls, asks for kept counts, and mends it.
@@ -97,21 +108,34 @@ fn alone(library: &mut Library, clause: &Clause, busy: &Busy) {
 
 /// A call with all its octets.
 enum Call {
-    Message { lent: usize, packet: Vec<u8> },
+    Message {
+        lent: usize,
+        packet: Vec<u8>,
+    },
     Alive(Vec<u8>),
     Clock(u64),
+    Multicast {
+        lent: [usize; 2],
+        group: u8,
+        packet: Vec<u8>,
+    },
 }
 
 impl Call {
-    /// The number that it is answered with at this state.
-    fn number_at(&self, state: &Receiver) -> u8 {
-        let mut state = state.clone();
+    /// The number that it would be answered with.
+    fn number_now(&self, library: &Library) -> u8 {
+        let mut state = library.past.receiver.clone();
         match self {
             Call::Message { lent, packet } => {
                 message(&mut state, &mut vec![0; *lent], packet).number
             }
             Call::Alive(packet) => alive(&mut state, packet),
             Call::Clock(ms) => clock(&mut state, *ms).number,
+            Call::Multicast {
+                lent,
+                group,
+                packet,
+            } => table_scenes::number_lent(library, *lent, *group, packet),
         }
     }
 
@@ -120,19 +144,23 @@ impl Call {
             Call::Message { lent, packet } => library.past.message_lent(*lent, packet),
             Call::Alive(packet) => library.past.alive_call(packet),
             Call::Clock(ms) => library.past.clock(*ms),
+            Call::Multicast {
+                lent,
+                group,
+                packet,
+            } => library.past.multicast_lent(*lent, *group, packet),
         }
     }
 }
 
 /// The numbers that can be given beside 9.
-const OTHERS: [u8; 13] = [11, 12, 13, 14, 15, 16, 17, 18, 19, 20, 21, 22, 24];
+const OTHERS: [u8; 15] = [11, 12, 13, 14, 15, 16, 17, 18, 19, 20, 21, 22, 24, 25, 26];
 
-/// A call that is refused at the good state too. (Not each can be made at each
-/// state: a test node has no 15. Nor is each section that is broken at random
-/// refused with 24.)
+/// A call that is refused at the good state too. (Not each section that is broken at
+/// random is refused with 24.)
 fn together(library: &mut Library, clause: &Clause, busy: &Busy, number: u8) {
     let call = refused_with(library, busy, number);
-    let number = call.number_at(&library.past.receiver);
+    let number = call.number_now(library);
     if number < 9 {
         return;
     }
@@ -145,7 +173,10 @@ fn together(library: &mut Library, clause: &Clause, busy: &Busy, number: u8) {
 /// A call for this number.
 fn refused_with(library: &mut Library, busy: &Busy, number: u8) -> Call {
     let signal = library.dice.one_in(2);
+    let to_a_group = library.dice.one_in(2);
     match number {
+        25 | 26 => wrong_cast(library, busy, number),
+        12..=17 if to_a_group => wrong_cast(library, busy, number),
         11 => Call::Message {
             lent: library.wrong_length(),
             packet: busy.plan.pdu(busy.missing),
@@ -180,6 +211,21 @@ fn wrong_signal(library: &mut Library, busy: &Busy, number: u8) -> Call {
         _ => put(&mut packet, alive::AL_VER, 2),
     }
     Call::Alive(packet)
+}
+
+/// A multicast call with one thing wrong: 26 is a table's size.
+fn wrong_cast(library: &mut Library, busy: &Busy, number: u8) -> Call {
+    let mut lent = library.past.entries_lent();
+    if number == 26 {
+        let table = library.dice.below(2) as usize;
+        lent[table] = wrong_size(library);
+    }
+    let (group, packet) = table_scenes::refused_with(library, &busy.cast, number);
+    Call::Multicast {
+        lent,
+        group,
+        packet,
+    }
 }
 
 /// A PDU of the open message, or of one before it, with one thing wrong.

@@ -1,12 +1,17 @@
 //! Scenes that a capture cannot show: all senders at once, storage of another
-//! length, the cutter, parts, fault sections, kept counts, and states that no past
-//! leaves.
+//! length, the cutter, parts, fault sections, kept counts, multicast, and states
+//! that no past leaves.
 
+use super::cast_scenes::{
+    cast_checks, casts_among_pieces, casts_in_turn, damaged_casts, groups_past_the_count,
+    one_number_to_many, other_groups, refused_groups,
+};
 use super::cutting::cut_with;
 use super::fault_scenes::{sections_read, sections_written};
 use super::library::Library;
 use super::nine::damaged_states;
 use super::parts_and_fields::part_call;
+use super::table_scenes::{damaged_tables, other_entries};
 use crate::cut::{length_of, pieces, HeaderValues};
 use crate::dice::Dice;
 use crate::header::HEADER;
@@ -19,7 +24,7 @@ use crate::state::{OpenMessage, Sender, Setup, AREA, SENDERS_MOST};
 pub type OwnScene = fn(&mut Library);
 
 /// The deck of them. A scene that stands twice is played twice as often.
-pub const OWN_SCENES: [OwnScene; 15] = [
+pub const OWN_SCENES: [OwnScene; 27] = [
     refused_counts,
     all_senders,
     all_senders,
@@ -34,6 +39,18 @@ pub const OWN_SCENES: [OwnScene; 15] = [
     never_looked_at,
     other_count,
     other_held,
+    casts_in_turn,
+    cast_checks,
+    cast_checks,
+    one_number_to_many,
+    casts_among_pieces,
+    damaged_casts,
+    damaged_casts,
+    refused_groups,
+    groups_past_the_count,
+    other_groups,
+    other_entries,
+    damaged_tables,
     damaged_states,
 ];
 
@@ -45,6 +62,7 @@ fn refused_counts(library: &mut Library) {
         n1: 16,
         t: 15_000,
         senders: (1..=count).map(|node| (1, node)).collect(),
+        groups: library.groups(),
     };
     library.setup(&wanted);
 }

@@ -7,7 +7,7 @@ use crate::alive::alive;
 use crate::clock::clock;
 use crate::fields::field;
 use crate::receiver::{message, part, question, Answer};
-use crate::state::{lowest_missing, setup, Receiver, Sender, Setup, AREA, SENDERS_MOST};
+use crate::state::{lowest_missing, setup, Groups, Receiver, Sender, Setup, AREA, SENDERS_MOST};
 
 /// 01: "A past is a setup, storage of its right length with any octets in it,
 /// and then calls, each given the state and storage that the one before left."
@@ -16,6 +16,9 @@ use crate::state::{lowest_missing, setup, Receiver, Sender, Setup, AREA, SENDERS
 pub struct Past {
     pub receiver: Receiver,
     pub storage: Vec<u8>,
+    /// The two tables that multicast calls are lent.
+    pub versions: Vec<u32>,
+    pub numbers: Vec<u32>,
     pub lines: String,
     pub fields: Vec<u8>,
     quiet: bool,
@@ -26,6 +29,8 @@ pub struct Past {
 
 /// "the whole storage is filled with octet 170"; a cutter's buffer is too.
 pub const FILL: u8 = 170;
+/// "The tables: two of 1,040 entries each, versions and numbers".
+pub const TABLE: usize = 1_040;
 
 impl Past {
     /// A past of which all calls are kept.
@@ -39,6 +44,8 @@ impl Past {
         Past {
             receiver: Receiver::empty(),
             storage: vec![FILL; SENDERS_MOST * AREA],
+            versions: vec![0; TABLE],
+            numbers: vec![0; TABLE],
             lines: String::new(),
             fields: Vec::new(),
             quiet: false,
@@ -103,8 +110,13 @@ impl Past {
         self.quietly(|past| past.setup([0, 16, 15_000, 2, 2, 9]));
     }
 
-    /// "setup(mode, n1, t, count, field, node)".
+    /// "setup(mode, n1, t, count, field, node)": without groups.
     pub fn setup(&mut self, values: [u32; 6]) {
+        self.setup_with(values, Groups::default());
+    }
+
+    /// The same with groups.
+    pub fn setup_with(&mut self, values: [u32; 6], groups: Groups) {
         let [mode, n1, t, count, field, node] = values;
         let second = (field as u8, node as u16);
         let wanted = Setup {
@@ -112,16 +124,19 @@ impl Past {
             n1: n1 as u16,
             t,
             senders: senders(count, second),
+            groups,
         };
         self.set_up(&wanted, &senders(SENDERS_MOST as u32, second));
     }
 
-    /// "Fills the whole storage with octet 170 and calls setup"; the state is what
-    /// setup returns, "also on a refusal". The places are those of "a program that
-    /// holds 16 places and a count beside them".
+    /// "Fills the whole storage with octet 170, clears both tables [...] and calls
+    /// setup"; the state is what setup returns, "also on a refusal". The places are
+    /// those of "a program that holds 16 places and a count beside them".
     pub fn set_up(&mut self, wanted: &Setup, places: &[(u8, u16)]) {
         let (number, receiver) = setup(wanted);
         self.storage.fill(FILL);
+        self.versions.fill(0);
+        self.numbers.fill(0);
         self.receiver = receiver;
         let contents = calls::setup(wanted, places);
         self.made('S', &contents, &format!("S {number}"));
@@ -237,16 +252,17 @@ impl Past {
         }
     }
 
-    /// "W test n1 t clock count", and a w line for each sender.
+    /// "W test n1 t clock count groups g1 g2 ... g8", and a w line for each sender.
     pub fn show(&mut self) {
         let state = &self.receiver;
-        let count = state.senders.len();
+        let (count, groups) = (state.senders.len(), state.groups.count);
         let mut lines = vec![format!(
-            "W {} {} {} {} {count}",
+            "W {} {} {} {} {count} {groups} {}",
             u8::from(state.test),
             state.n1,
             state.t,
-            state.clock
+            state.clock,
+            joined(&state.groups.places)
         )];
         lines.extend(state.senders.iter().enumerate().map(sender_line));
         self.made('W', &[], &lines.join("\n"));

@@ -72,6 +72,26 @@ pub fn number(version: u32, seq: u32) -> Vec<u8> {
     piece([1, 7, version, seq, 1, 10, 256, 1])
 }
 
+/// "cast(group, field, node, pri, version, seq, n)": a multicast message, whose
+/// group is none of the PDU's.
+pub fn cast(values: [u32; 6]) -> Vec<u8> {
+    let [field, node, pri, version, seq, n] = values;
+    let size = HEADER as u32 + n;
+    let head = Head {
+        ml: size,
+        field: field as u8,
+        node: node as u16,
+        version,
+        seq,
+        pri: pri as u8,
+        cbn: 1,
+        tbn: 1,
+        bsize: size as u16,
+        ..base_head()
+    };
+    pdu(&head, 0, size as usize)
+}
+
 /// "raw(ml, bsize, cbn, tbn, lent)": any sizes, possible or not.
 pub fn raw(ml: u32, bsize: u16, cbn: u8, tbn: u8, lent: usize) -> Vec<u8> {
     let head = Head {
@@ -164,6 +184,14 @@ mod tests {
         // 7 x 256 + 1 + 101 = 1894 = 7 x 256 + 102.
         expected.extend((0..44).map(|j| ((102 + 7 * j) % 256) as u8));
         assert_eq!(pdu, expected);
+    }
+
+    #[test]
+    fn a_multicast_message_is_a_piece_with_a_priority() {
+        assert_eq!(cast([1, 7, 0, 5, 100, 10]), number(5, 100));
+        let most = piece([2, 9, 6, 101, 1, 1_396, 1_396, 1]);
+        assert_eq!(cast([2, 9, 7, 6, 101, 1_396]), with(most, &[(55, 1, 7)]));
+        assert_eq!(cast([1, 7, 0, 5, 100, 1_408]).len(), 1_472);
     }
 
     #[test]

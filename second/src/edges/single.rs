@@ -71,7 +71,7 @@ fn what_setup_returns(past: &mut Past) {
 }
 
 /// at, size, value.
-const ONE_PLACE: [Laid; 30] = [
+pub const ONE_PLACE: [Laid; 30] = [
     (20, 4, 0),
     (20, 4, 1),
     (20, 4, 2_147_483_647),
@@ -232,7 +232,7 @@ fn cut_rule(past: &mut Past) {
 }
 
 /// version, seq, up to the first W.
-const CHECKED: [(u32, u32); 15] = [
+pub const CHECKED: [(u32, u32); 15] = [
     (0, 1),
     (5, 100),
     (5, 101),
@@ -250,7 +250,7 @@ const CHECKED: [(u32, u32); 15] = [
     (0, 1),
 ];
 
-const UNDER_VERSION_0: [(u32, u32); 4] = [(0, 2), (0, 2), (0, 5), (0, 1)];
+pub const UNDER_VERSION_0: [(u32, u32); 4] = [(0, 2), (0, 2), (0, 5), (0, 1)];
 
 fn numbers(past: &mut Past, rows: &[(u32, u32)]) {
     for (version, seq) in rows {

@@ -2,7 +2,7 @@
 //! and Table 8, apart from the code under test.
 #![allow(dead_code)]
 
-use second::state::{setup, Receiver, Setup};
+use second::state::{setup, Groups, Receiver, Setup};
 
 pub const M: u32 = 2_147_483_647;
 
@@ -103,6 +103,7 @@ pub fn receiver(senders: &[(u8, u16)]) -> Receiver {
         n1: 16,
         t: 15_000,
         senders: senders.to_vec(),
+        groups: Groups::default(),
     };
     let (number, receiver) = setup(&wanted);
     assert_eq!(number, 0);

@@ -6,8 +6,9 @@ use second::clock::clock;
 use second::cut::{cut_piece, HeaderValues};
 use second::fault::{self, Parts};
 use second::fields::{next_field, Next};
+use second::multicast::{multicast, Tables};
 use second::receiver::{message, part, question, Answer, Where};
-use second::state::{setup, OpenMessage, Receiver, Sender, Setup};
+use second::state::{setup, Groups, OpenMessage, Receiver, Sender, Setup};
 
 /// A field as it is read: tag and contents.
 pub type Field = (char, Vec<u8>);
@@ -29,6 +30,8 @@ pub fn lines_of(fields: &[Field]) -> Vec<String> {
     let mut replay = Replay {
         state: Receiver::empty(),
         storage: vec![0; 262_144],
+        versions: vec![0; 1_040],
+        numbers: vec![0; 1_040],
         lines: Vec::new(),
     };
     for (tag, contents) in fields {
@@ -46,18 +49,34 @@ impl Contents<'_> {
         self.0 = rest;
         front.iter().fold(0, |n, octet| n * 256 + u64::from(*octet))
     }
+
+    /// "number of groups (1), the eight group places (1 each)".
+    fn groups(&mut self) -> Groups {
+        Groups {
+            count: self.number(1) as u8,
+            places: [0; 8].map(|_| self.number(1) as u8),
+        }
+    }
 }
 
-/// The state in use, the storage, and the lines printed.
+/// The state in use, the storage, the tables, and the lines printed.
 struct Replay {
     state: Receiver,
     storage: Vec<u8>,
+    versions: Vec<u32>,
+    numbers: Vec<u32>,
     lines: Vec<String>,
 }
 
 fn sum(octets: &[u8]) -> u64 {
     let next = |s, octet: &u8| (31 * s + u64::from(*octet)) % 4_294_967_296;
     octets.iter().fold(7, next)
+}
+
+/// "each entry as four octets, high octet first".
+fn sum_of_entries(entries: &[u32]) -> u64 {
+    let octets = entries.iter().map(|entry| entry.to_be_bytes());
+    sum(octets.collect::<Vec<_>>().as_flattened())
 }
 
 impl Replay {
@@ -76,6 +95,9 @@ impl Replay {
             'K' => cut(Contents(contents)),
             'R' if tag == 'r' => self.damage_sender(Contents(contents)),
             'R' => self.part(Contents(contents)),
+            'M' => self.multicast(Contents(contents)),
+            'E' if tag == 'e' => self.damage_entry(Contents(contents)),
+            'E' => self.show_tables(),
             'G' => section_read(contents),
             'B' => module(Contents(contents)),
             'L' => error_of(Contents(contents)),
@@ -95,6 +117,7 @@ impl Replay {
             n1: contents.number(2) as u16,
             t: contents.number(4) as u32,
             senders: Vec::new(),
+            groups: Groups::default(),
         };
         let count = contents.number(1) as usize;
         for _ in 0..16 {
@@ -103,7 +126,10 @@ impl Replay {
         }
         // 17 or more: any further pair, so that the list is as long as that.
         wanted.senders.resize(count, (99, 99));
+        wanted.groups = contents.groups();
         self.storage.fill(170);
+        self.versions.fill(0);
+        self.numbers.fill(0);
         let (number, state) = setup(&wanted);
         self.state = state;
         format!("S {number}")
@@ -141,7 +167,10 @@ impl Replay {
     fn show(&self) -> String {
         let s = &self.state;
         let (test, count) = (u8::from(s.test), s.senders.len());
-        let mut lines = format!("W {test} {} {} {} {count}\n", s.n1, s.t, s.clock);
+        let mut lines = format!("W {test} {} {} {} {count}", s.n1, s.t, s.clock);
+        lines += &format!(" {}", s.groups.count);
+        lines.extend(s.groups.places.map(|place| format!(" {place}")));
+        lines += "\n";
         for (place, sender) in s.senders.iter().enumerate() {
             lines += &sender_line(place, sender);
         }
@@ -163,6 +192,7 @@ impl Replay {
         self.state.clock = contents.number(8);
         let count = contents.number(1) as usize;
         self.state.senders.resize(count, Sender::default());
+        self.state.groups = contents.groups();
         String::new()
     }
 
@@ -174,6 +204,42 @@ impl Replay {
             *sender = damaged;
         }
         String::new()
+    }
+
+    fn multicast(&mut self, mut contents: Contents) -> String {
+        let versions = contents.number(2) as usize;
+        let numbers = contents.number(2) as usize;
+        let group = contents.number(1) as u8;
+        let tables = Tables {
+            versions: &mut self.versions[..versions],
+            numbers: &mut self.numbers[..numbers],
+        };
+        let packet = contents.0;
+        let a = multicast(&self.state, tables, group, packet);
+        let delivered = part(a.message, packet, &self.storage);
+        let (verdict, length) = (a.verdict.number(), delivered.len());
+        let tables = [&self.versions[..versions], &self.numbers[..numbers]];
+        let [versions, numbers] = tables.map(sum_of_entries);
+        let answer = format!("{} {verdict} {length} {}", a.number, a.skipped);
+        format!("M {answer} {} {versions} {numbers}", sum(delivered))
+    }
+
+    fn damage_entry(&mut self, mut contents: Contents) -> String {
+        let place = contents.number(2) as usize;
+        self.versions[place] = contents.number(4) as u32;
+        self.numbers[place] = contents.number(4) as u32;
+        String::new()
+    }
+
+    fn show_tables(&self) -> String {
+        let entry = |place: usize| (self.versions[place], self.numbers[place]);
+        let in_use: Vec<usize> = (0..1_040).filter(|place| entry(*place) != (0, 0)).collect();
+        let mut lines = format!("E {}\n", in_use.len());
+        for place in in_use {
+            let (version, number) = entry(place);
+            lines += &format!("e {place} {version} {number}\n");
+        }
+        lines
     }
 
     fn part(&mut self, mut contents: Contents) -> String {
