@@ -12,13 +12,19 @@
 /* What storage and buffers are filled with. */
 enum { FILL = 170 };
 
-enum { STORAGE = ADP_SENDERS * ADP_AREA, CONTENTS = 65535 };
+enum { STORAGE = ADP_SENDERS * ADP_AREA, ENTRIES = 1040, CONTENTS = 65535 };
 
 /* The least number that is a refusal. */
 enum { REFUSAL = 9 };
 
 /* A tally stops here. */
 static const uint32_t MOST = 4294967295u;
+
+/* A table of multicast calls: its entries between calls, and where they lie during one. */
+struct table {
+    uint32_t entries[ENTRIES];
+    struct room room;
+};
 
 struct caller {
     const char *name;
@@ -38,6 +44,7 @@ struct caller {
     struct room state_room, storage_room, tally_room;
     struct room packet_room, buffer_room;
     struct room bits_room, errors_room, name_room;
+    struct table versions, numbers;
 };
 
 static void need(const struct caller *c, bool good, const char *what) {
@@ -51,6 +58,10 @@ static void need(const struct caller *c, bool good, const char *what) {
 
 static uint64_t *lend_state(struct caller *c) {
     return lend(&c->state_room, c->way, c->state, sizeof c->state);
+}
+
+static const uint64_t *lend_constant_state(struct caller *c) {
+    return lend_constant(&c->state_room, c->way, c->state, sizeof c->state);
 }
 
 /* The state is handed on as the call leaves it. */
@@ -86,12 +97,21 @@ static struct adp_settings settings_in(const uint8_t *octets) {
         s.senders[i].field = octets[8 + 3 * i];
         s.senders[i].node = (uint16_t)number_at(octets + 9 + 3 * i, 2);
     }
+    s.groups.count = octets[8 + 3 * ADP_SENDERS];
+    memcpy(s.groups.list, octets + 9 + 3 * ADP_SENDERS, ADP_GROUPS);
     return s;
 }
 
-static void call_setup(struct caller *c) {
-    need(c, c->length == 8 + 3 * ADP_SENDERS, "a setup of a wrong length");
+/* "Fills the storage and clears the tables before" */
+static void make_anew(struct caller *c) {
     memset(c->storage, FILL, sizeof c->storage);
+    memset(c->versions.entries, 0, sizeof c->versions.entries);
+    memset(c->numbers.entries, 0, sizeof c->numbers.entries);
+}
+
+static void call_setup(struct caller *c) {
+    need(c, c->length == 9 + 3 * ADP_SENDERS + ADP_GROUPS, "a setup of a wrong length");
+    make_anew(c);
     uint8_t number = adp_setup(lend_state(c), ADP_STATE_WORDS, settings_in(c->contents));
     /* Its refusal is to change the state. */
     take_state(c, 0);
@@ -147,6 +167,57 @@ static void call_message(struct caller *c) {
             a.held, a.length, a.skipped, a.dropped_version, a.dropped_number, part_sum, storage_sum);
 }
 
+/* ---- the multicast call */
+
+static uint32_t *lend_table(struct caller *c, struct table *table, size_t count) {
+    need(c, count <= ENTRIES, "more entries than a table has");
+    return lend(&table->room, c->way, table->entries, count * sizeof *table->entries);
+}
+
+/* A table is handed on as the call leaves it. Answers the sum of what was lent, "each entry as four octets, high octet
+ * first". */
+static uint32_t take_table(struct caller *c, struct table *table, unsigned number) {
+    uint8_t octets[4 * ENTRIES];
+    size_t count = table->room.length / sizeof *table->entries;
+    need(c, number < REFUSAL || same(&table->room, table->entries), "a refusal changes a table");
+    need(c, take_back(&table->room, table->entries), "octets beside a table change");
+    for (size_t i = 0; i < count; i++) lay(octets + 4 * i, 4, table->entries[i]);
+    return sum(octets, 4 * count);
+}
+
+/* What the line does not show. */
+static void need_one_piece(const struct caller *c, struct adp_answer a) {
+    need(c, a.held == 0, "a multicast call holds pieces");
+    need(c, a.dropped_version == 0 && a.dropped_number == 0, "a multicast call drops a message");
+    need(c, a.slice != ADP_IN_STORAGE, "a multicast call was lent no storage, and its message lies there");
+}
+
+static struct adp_answer group_answer_of(struct caller *c) {
+    size_t version_entries = (size_t)number_at(c->contents, 2), number_entries = (size_t)number_at(c->contents + 2, 2);
+    const uint64_t *state = lend_constant_state(c);
+    uint32_t *versions = lend_table(c, &c->versions, version_entries);
+    uint32_t *numbers = lend_table(c, &c->numbers, number_entries);
+    const uint8_t *packet = lend_packet(c, 5);
+    struct adp_answer a = adp_multicast(state, ADP_STATE_WORDS, versions, version_entries, numbers, number_entries,
+                                        c->contents[4], packet, c->length - 5);
+    need(c, same(&c->state_room, c->state), "a multicast call changes the state");
+    take_state(c, a.number);
+    return a;
+}
+
+static void call_multicast(struct caller *c) {
+    need(c, c->length >= 5, "a multicast call of a wrong length");
+    struct adp_answer a = group_answer_of(c);
+    need_one_piece(c, a);
+    uint32_t part_sum = sum(part_of(c, a), a.length);
+    take_packet(c);
+    uint32_t versions_sum = take_table(c, &c->versions, a.number);
+    uint32_t numbers_sum = take_table(c, &c->numbers, a.number);
+    if (!told(c)) return;
+    fprintf(c->out, "M %u %u %zu %" PRIu32 " %" PRIu32 " %" PRIu32 " %" PRIu32 "\n", a.number, a.verdict, a.length,
+            a.skipped, part_sum, versions_sum, numbers_sum);
+}
+
 /* ---- alive signals, the clock, the question, how many pieces are held */
 
 static void call_alive(struct caller *c) {
@@ -175,8 +246,7 @@ static unsigned by_ones(const struct caller *c, struct adp_missing missing) {
 }
 
 static void call_question(struct caller *c) {
-    const uint64_t *state = lend_constant(&c->state_room, c->way, c->state, sizeof c->state);
-    struct adp_missing missing = adp_question(state, ADP_STATE_WORDS);
+    struct adp_missing missing = adp_question(lend_constant_state(c), ADP_STATE_WORDS);
     take_state(c, missing.number);
     fprintf(c->out, "Q %u %u %u %u %u\n", missing.number, missing.open, missing.sender, missing.piece,
             by_ones(c, missing));
@@ -184,8 +254,7 @@ static void call_question(struct caller *c) {
 
 static void call_held(struct caller *c) {
     need(c, c->length == 1, "a held call of a wrong length");
-    const uint64_t *state = lend_constant(&c->state_room, c->way, c->state, sizeof c->state);
-    uint8_t held = adp_held(state, ADP_STATE_WORDS, c->contents[0]);
+    uint8_t held = adp_held(lend_constant_state(c), ADP_STATE_WORDS, c->contents[0]);
     /* What it gives is a count, and never a refusal. */
     take_state(c, 0);
     fprintf(c->out, "H %u\n", held);
@@ -324,7 +393,7 @@ static void call_write(struct caller *c) {
     need(c, take_back(&c->buffer_room, NULL), "octets beside the buffer change");
 }
 
-/* ---- the state, shown and damaged */
+/* ---- the state and the tables, shown and damaged */
 
 static void show_sender(struct caller *c, size_t i) {
     const uint64_t *s = c->state + word_of(i, 0);
@@ -340,19 +409,23 @@ static void show_sender(struct caller *c, size_t i) {
 
 static void show(struct caller *c) {
     const uint64_t *w = c->state;
-    fprintf(c->out, "W %" PRIu64 " %" PRIu64 " %" PRIu64 " %" PRIu64 " %" PRIu64 "\n", w[WORD_TEST], w[WORD_N1],
-            w[WORD_T], w[WORD_CLOCK], w[WORD_COUNT]);
+    fprintf(c->out, "W %" PRIu64 " %" PRIu64 " %" PRIu64 " %" PRIu64 " %" PRIu64 " %" PRIu64, w[WORD_TEST], w[WORD_N1],
+            w[WORD_T], w[WORD_CLOCK], w[WORD_COUNT], w[WORD_GROUP_COUNT]);
+    for (size_t i = 0; i < ADP_GROUPS; i++) fprintf(c->out, " %u", group_in(w[WORD_GROUPS], i));
+    fputc('\n', c->out);
     for (size_t i = 0; i < ADP_SENDERS && i < w[WORD_COUNT]; i++) show_sender(c, i);
 }
 
 static void damage_settings(struct caller *c) {
     const uint8_t *octets = c->contents;
-    need(c, c->length == 16, "a damage of a wrong length");
+    need(c, c->length == 17 + ADP_GROUPS, "a damage of a wrong length");
     c->state[WORD_TEST] = octets[0] == 1;
     c->state[WORD_N1] = number_at(octets + 1, 2);
     c->state[WORD_T] = number_at(octets + 3, 4);
     c->state[WORD_CLOCK] = number_at(octets + 7, 8);
     c->state[WORD_COUNT] = octets[15];
+    c->state[WORD_GROUP_COUNT] = octets[16];
+    c->state[WORD_GROUPS] = groups_word(octets + 17);
 }
 
 static void damage_sender(struct caller *c) {
@@ -372,6 +445,26 @@ static void damage_sender(struct caller *c) {
     s[OF_TIMEOUT] = number_at(octets + 54, 4);
 }
 
+static bool is_used(const struct caller *c, size_t place) {
+    return c->versions.entries[place] != 0 || c->numbers.entries[place] != 0;
+}
+
+static void show_tables(struct caller *c) {
+    size_t count = 0;
+    for (size_t i = 0; i < ENTRIES; i++) count += is_used(c, i);
+    fprintf(c->out, "E %zu\n", count);
+    for (size_t i = 0; i < ENTRIES; i++)
+        if (is_used(c, i))
+            fprintf(c->out, "e %zu %" PRIu32 " %" PRIu32 "\n", i, c->versions.entries[i], c->numbers.entries[i]);
+}
+
+static void damage_entry(struct caller *c) {
+    size_t place = (size_t)number_at(c->contents, 2);
+    need(c, c->length == 10 && place < ENTRIES, "a damage of an entry of a wrong length or place");
+    c->versions.entries[place] = (uint32_t)number_at(c->contents + 2, 4);
+    c->numbers.entries[place] = (uint32_t)number_at(c->contents + 6, 4);
+}
+
 /* ---- fields */
 
 static void print_title(struct caller *c) {
@@ -385,6 +478,7 @@ static void make_call(struct caller *c) {
     case '#': print_title(c); break;
     case 'S': case 's': call_setup(c); break;
     case 'P': case 'p': call_message(c); break;
+    case 'M': case 'm': call_multicast(c); break;
     case 'A': case 'a': call_alive(c); break;
     case 'C': case 'c': call_clock(c); break;
     case 'Q': call_question(c); break;
@@ -398,6 +492,8 @@ static void make_call(struct caller *c) {
     case 'W': show(c); break;
     case 't': damage_settings(c); break;
     case 'r': damage_sender(c); break;
+    case 'E': show_tables(c); break;
+    case 'e': damage_entry(c); break;
     case 'R': case 'F': break;
     default: need(c, false, "there is no such tag");
     }
@@ -448,5 +544,7 @@ struct caller *new_caller(const char *name, enum way way, bool tallied, FILE *ou
     open_room(&c->bits_room, CONTENTS);
     open_room(&c->errors_room, CONTENTS);
     open_room(&c->name_room, 8);
+    open_room(&c->versions.room, sizeof c->versions.entries);
+    open_room(&c->numbers.room, sizeof c->numbers.entries);
     return c;
 }

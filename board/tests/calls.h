@@ -3,7 +3,8 @@
  *
  * Every octet that a call is lent lies in a room of room.h, what is lent as const in read-only pages. Beside the lines
  * it is seen that a refusal changes no octet (but setup's), that no octet near what was lent changes, that a part lies
- * within what was lent, and that the tally counts. What is not so is said on standard error, and ends the run.
+ * within what was lent, that the tally counts, and that a multicast call leaves the state and holds and drops nothing.
+ * What is not so is said on standard error, and ends the run.
  *
  * adp.h has no call that R and F could make: an answer says where its part lies, and the board takes it itself; tagged
  * fields are the program's. Their fields are passed over. */

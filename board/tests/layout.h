@@ -3,7 +3,7 @@
 #ifndef LAYOUT_H
 #define LAYOUT_H
 
-#include <stddef.h>
+#include "adp.h"
 
 enum {
     WORD_TEST = 0,
@@ -11,7 +11,9 @@ enum {
     WORD_T = 2,
     WORD_CLOCK = 3,
     WORD_COUNT = 4,
-    FIRST_SENDER = 5,
+    WORD_GROUP_COUNT = 5,
+    WORD_GROUPS = 6, /* an octet each, the first lowest */
+    FIRST_SENDER = 7,
     WORDS_EACH = 10
 };
 
@@ -28,6 +30,18 @@ enum {
     OF_HEARD = 8,
     OF_TIMEOUT = 9 /* al_tm_out */
 };
+
+/* The word of eight groups, and the group at a place of such a word. */
+static inline uint64_t groups_word(const uint8_t *groups) {
+    uint64_t word = 0;
+    for (size_t i = ADP_GROUPS; i > 0; i--) word = word * 256 + groups[i - 1];
+    return word;
+}
+
+static inline uint8_t group_in(uint64_t word, size_t place) {
+    for (; place > 0; place--) word /= 256;
+    return word % 256;
+}
 
 static inline size_t word_of(size_t sender, size_t which) {
     return FIRST_SENDER + WORDS_EACH * sender + which;

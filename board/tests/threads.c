@@ -1,5 +1,5 @@
-/* Two receivers in two threads at the same time, each with its own state and storage and its own night: each must print
- * what it prints alone.   threads CALLS LINES CALLS LINES   reads two files and writes two
+/* Two receivers in two threads at the same time, each with its own state, storage and tables and its own night: each
+ * must print what it prints alone.   threads CALLS LINES CALLS LINES   reads two files and writes two
  *
  * On one processor two threads seldom meet within a call: a timer lets them take turns at any instruction. */
 #define _XOPEN_SOURCE 700

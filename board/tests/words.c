@@ -1,12 +1,13 @@
 /* Words that are no state, numbers of words that no state has, words that are never looked at, and NULL for what has no
- * octets: what the calls by value cannot be given; and the number of pieces held, where it stands in the words. What
- * must come back follows from 01's row 9, from 02's item 1 and from adp.h, and is written out here.
+ * octets: what the calls by value cannot be given; and the number of pieces held, and groups, where they stand in the
+ * words. What must come back follows from 01's row 9, from 02's items 1 and 5 and from adp.h, and is written out here.
  *
  * Each call is made twice, with all that it is lent against the one and against the other inaccessible page; those with
  * NULL once. It prints how many calls it made. */
 #include "adp.h"
 #include "held.h"
 #include "layout.h"
+#include "multicast.h"
 #include "octets.h"
 #include "pdus.h"
 #include "room.h"
@@ -55,10 +56,15 @@ struct call {
     struct adp_settings settings;
 };
 
+static const struct adp_address FIRST = {1, 7}, SECOND = {2, 9};
+
+/* In three groups. */
+static const struct adp_groups THREE = {3, {5, 1, 255}};
+
 static struct adp_settings two_senders(uint16_t n1) {
-    struct adp_settings s = {.n1 = n1, .t = 15000, .count = 2};
-    s.senders[0] = (struct adp_address){1, 7};
-    s.senders[1] = (struct adp_address){2, 9};
+    struct adp_settings s = {.n1 = n1, .t = 15000, .count = 2, .groups = THREE};
+    s.senders[0] = FIRST;
+    s.senders[1] = SECOND;
     return s;
 }
 
@@ -119,6 +125,7 @@ static void expect(const char *name, const struct call *c, const uint64_t *state
 /* The calls that the past below takes: at its end, at the clock 1000, the first of two senders is alive and has pieces
  * 2 and 4 of four, and the second is not alive and has pieces 1, 7 and 12 of twelve. */
 static struct call taken[KINDS];
+static struct cast taken_by_group; /* the second group: its entry is (0 * 3 + 1) * 8 + 2 */
 
 static struct call message(uint8_t field, uint16_t node, size_t n, size_t u, uint8_t number) {
     return (struct call){.kind = MESSAGE, .pdu = piece(field, node, n, u, number)};
@@ -131,6 +138,7 @@ static void make_calls(void) {
     taken[ALIVE] = (struct call){.kind = ALIVE, .pdu = signal_of(1, 7, 1)};
     taken[CLOCK] = (struct call){.kind = CLOCK, .ms = 1001};
     taken[QUESTION] = (struct call){.kind = QUESTION};
+    taken_by_group = cast_to(1, FIRST, 48, 10);
 }
 
 static void make_past(uint64_t *state) {
@@ -147,6 +155,7 @@ static void make_past(uint64_t *state) {
         unsigned number = call_on(&taken[kind], state, ADP_STATE_WORDS, AT_END, after);
         need_number(number, 0, "undamaged", KIND[kind]);
     }
+    multicast_is("undamaged", state, ADP_STATE_WORDS, &taken_by_group, ADP_DELIVERED);
 }
 
 /* What setup makes of any words. */
@@ -155,6 +164,8 @@ static void make_new(uint64_t *wanted) {
     wanted[WORD_N1] = 16;
     wanted[WORD_T] = 15000;
     wanted[WORD_COUNT] = 2;
+    wanted[WORD_GROUP_COUNT] = 3;
+    wanted[WORD_GROUPS] = 5 + 1 * 256 + 255 * 65536;
     wanted[word_of(0, OF_ADDRESS)] = 1 * 65536 + 7;
     wanted[word_of(1, OF_ADDRESS)] = 2 * 65536 + 9;
 }
@@ -192,6 +203,7 @@ static void test_past(const uint64_t *state) {
 /* Every call but setup answers 9 and changes nothing. */
 static void all_nine(const char *name, const uint64_t *state, size_t words) {
     for (int kind = MESSAGE; kind < KINDS; kind++) expect(name, &taken[kind], state, words, 9, state);
+    multicast_is(name, state, words, &taken_by_group, ADP_BAD_STATE);
 }
 
 /* Setup makes such words a state, and adp_held gives what is kept in them, all the same. */
@@ -290,7 +302,8 @@ static void test_open_messages(const uint64_t *state) {
 
 /* The words are a state, with more behind them or less. Setup gets others, which no setup would write. */
 static void test_numbers_of_words(const uint64_t *state) {
-    const size_t numbers[] = {0, 1, FIRST_SENDER, ADP_STATE_WORDS - 1, ADP_STATE_WORDS + 1, MOST_WORDS};
+    const size_t numbers[] = {0, 1, FIRST_SENDER, ADP_STATE_WORDS - 2, ADP_STATE_WORDS - 1, ADP_STATE_WORDS + 1,
+                              MOST_WORDS};
     struct call refused = {.kind = SETUP, .settings = two_senders(0)};
     uint64_t junk[MOST_WORDS];
     memset(junk, FILL, sizeof junk);
@@ -321,7 +334,8 @@ static void test_setup(void) {
 /* ---- what is never looked at */
 
 /* Nobody is alive and nothing is open; everything else but flags, addresses and last numbers is junk. Past the count
- * flags are junk as well; there the one address is of nobody else, and the other stands below the count. */
+ * flags are junk as well; there the one address is of nobody else, and the other stands below the count. Past the
+ * groups stand some of them again, group 0, and group 77, which is none of them. */
 static void make_junk(uint64_t *state) {
     struct call clock = {.kind = CLOCK, .ms = 1000};
     call_on(&taken[SETUP], state, ADP_STATE_WORDS, AT_END, state);
@@ -330,6 +344,7 @@ static void make_junk(uint64_t *state) {
         for (size_t which = OF_MESSAGE; which < WORDS_EACH; which++)
             if (which != OF_ALIVE) state[word_of(i, which)] = ANY - which;
     for (size_t at = word_of(2, 0); at < ADP_STATE_WORDS; at++) state[at] = ANY - at;
+    state[WORD_GROUPS] = groups_word((const uint8_t[]){5, 1, 255, 5, 0, 77, 1, 255});
     state[word_of(2, OF_ADDRESS)] = 65536 + 9;
     state[word_of(3, OF_ADDRESS)] = 65536 + 7;
 }
@@ -381,12 +396,26 @@ static void junk_of_messages(const uint64_t *state) {
     expect("junk", &unknown, state, ADP_STATE_WORDS, 14, state);
 }
 
+/* Who is not registered comes before a group that is not. */
+static void junk_of_groups(const uint64_t *state) {
+    const struct adp_address unknown = {1, 9};
+    struct cast heard = cast_to(255, SECOND, 48, entry_of(1, 3, 2)), past = cast_to(77, SECOND, 48, 0);
+    struct cast none = cast_to(0, SECOND, 48, 0), both = cast_to(77, unknown, 48, 0);
+    multicast_is("junk", state, ADP_STATE_WORDS, &taken_by_group, ADP_DELIVERED);
+    multicast_is("junk", state, ADP_STATE_WORDS, &heard, ADP_DELIVERED);
+    multicast_is("junk", state, ADP_STATE_WORDS, &past, ADP_NO_GROUP);
+    multicast_is("junk", state, ADP_STATE_WORDS, &none, ADP_NO_GROUP);
+    multicast_is("junk", state, ADP_STATE_WORDS, &both, ADP_UNKNOWN);
+}
+
 /* The empty state, all else junk: only the clock can change it. */
 static void junk_of_nobody(void) {
     uint64_t state[MOST_WORDS], wanted[MOST_WORDS];
     struct call late = {.kind = CLOCK, .ms = 1000};
+    struct cast unknown = cast_to(1, FIRST, 0, 0);
     for (size_t at = 0; at < MOST_WORDS; at++) state[at] = at < FIRST_SENDER ? 0 : ANY - at;
     state[WORD_N1] = state[WORD_T] = 1;
+    state[WORD_GROUPS] = ANY - WORD_GROUPS;
     memcpy(wanted, state, sizeof wanted);
     wanted[WORD_CLOCK] = late.ms;
     expect("no senders", &late, state, ADP_STATE_WORDS, 0, wanted);
@@ -394,16 +423,38 @@ static void junk_of_nobody(void) {
     expect("no senders", &taken[MESSAGE], state, ADP_STATE_WORDS, 11, state);
     expect("no senders", &taken[TALLIED], state, ADP_STATE_WORDS, 11, state);
     expect("no senders", &taken[ALIVE], state, ADP_STATE_WORDS, 14, state);
+    multicast_is("no senders", state, ADP_STATE_WORDS, &taken_by_group, ADP_BAD_TABLES);
+    multicast_is("no senders", state, ADP_STATE_WORDS, &unknown, ADP_UNKNOWN);
     kept("no senders", state, 0, 0);
 }
 
+/* The senders, one or two, are heard in each of these groups, and not in group 0 or one more. */
+static void heard_in(const char *name, const uint64_t *state, const struct adp_groups *groups, uint8_t more) {
+    const size_t senders = (size_t)state[WORD_COUNT], entries = senders * groups->count * ADP_PRIORITIES;
+    const struct cast none = cast_to(0, FIRST, entries, 0), other = cast_to(more, FIRST, entries, 0);
+    for (size_t sender = 0; sender < senders; sender++)
+        for (size_t i = 0; i < groups->count; i++) {
+            struct cast c = cast_to(groups->list[i], sender == 0 ? FIRST : SECOND, entries,
+                                    entry_of(sender, groups->count, i));
+            multicast_is(name, state, ADP_STATE_WORDS, &c, ADP_DELIVERED);
+        }
+    multicast_is(name, state, ADP_STATE_WORDS, &none, ADP_NO_GROUP);
+    multicast_is(name, state, ADP_STATE_WORDS, &other, ADP_NO_GROUP);
+}
+
 /* Whether the words are a state: the question and the clock, 1 ms later, are answered, and nothing is too old. */
-static void passes(const char *name, const uint64_t *state) {
+static void is_state(const char *name, const uint64_t *state) {
     uint64_t wanted[ADP_STATE_WORDS];
     memcpy(wanted, state, sizeof wanted);
     wanted[WORD_CLOCK] = taken[CLOCK].ms;
     expect(name, &taken[QUESTION], state, ADP_STATE_WORDS, 0, state);
     expect(name, &taken[CLOCK], state, ADP_STATE_WORDS, 0, wanted);
+}
+
+/* The same, and the three groups are heard. */
+static void passes(const char *name, const uint64_t *state) {
+    is_state(name, state);
+    heard_in(name, state, &THREE, 77);
 }
 
 /* Of a sender who is not alive, or has nothing open. */
@@ -428,6 +479,7 @@ static void test_junk(const uint64_t *past) {
     junk_of_time(state);
     junk_of_alive(state);
     junk_of_messages(state);
+    junk_of_groups(state);
     junk_of_nobody();
     junk_of_one(past);
 }
@@ -534,6 +586,147 @@ static void test_past_the_count(const uint64_t *past) {
     kept(wrong.name, state, 2, 0);
 }
 
+/* ---- groups */
+
+static void with_groups(uint64_t *state, const uint64_t *past, const struct adp_groups *groups) {
+    memcpy(state, past, MOST_WORDS * sizeof *state);
+    state[WORD_GROUP_COUNT] = groups->count;
+    state[WORD_GROUPS] = groups_word(groups->list);
+}
+
+/* 02: 0 to 8 groups. The whole word is their number, not its lowest octet; at all eight places good ones stand. */
+static void test_group_counts(const uint64_t *past) {
+    const struct damage damages[] = {
+        {"9 groups", WORD_GROUP_COUNT, 9}, {"16 groups", WORD_GROUP_COUNT, 16}, {"255 groups", WORD_GROUP_COUNT, 255},
+        {"256 groups", WORD_GROUP_COUNT, 256}, {"259 groups", WORD_GROUP_COUNT, 256 + 3},
+        {"65,539 groups", WORD_GROUP_COUNT, 65536 + 3}, {"2^32 groups", WORD_GROUP_COUNT, HALF},
+        {"2^32 + 3 groups", WORD_GROUP_COUNT, HALF + 3}, {"2^63 + 3 groups", WORD_GROUP_COUNT, (HALF << 31) + 3},
+        {"2^64 - 1 groups", WORD_GROUP_COUNT, ANY},
+    };
+    struct adp_groups eight = {8, {20, 19, 18, 17, 16, 15, 14, 255}};
+    uint64_t state[MOST_WORDS];
+    with_groups(state, past, &eight);
+    test_damages(state, damages, sizeof damages / sizeof *damages, 2, 3);
+    for (uint8_t count = 0; count <= ADP_GROUPS; count++) {
+        char name[40];
+        snprintf(name, sizeof name, "%u of eight groups", count);
+        eight.count = count;
+        with_groups(state, past, &eight);
+        is_state(name, state);
+        heard_in(name, state, &eight, count < ADP_GROUPS ? eight.list[count] : 21);
+    }
+}
+
+struct grouped {
+    const char *name;
+    struct adp_groups groups;
+};
+
+/* Group 0, and one twice. */
+static void test_wrong_groups(const uint64_t *past) {
+    const struct grouped wrong[] = {
+        {"group 0 first", {3, {0, 1, 255}}}, {"group 0 second", {3, {5, 0, 255}}}, {"group 0 last", {3, {5, 1, 0}}},
+        {"group 0 alone", {1, {0, 1, 255}}}, {"one more, group 0", {4, {5, 1, 255}}},
+        {"group 5 first and second", {3, {5, 5, 255}}}, {"group 5 first and last", {3, {5, 1, 5}}},
+        {"group 1 second and last", {3, {5, 1, 1}}}, {"group 255 twice", {2, {255, 255}}},
+        {"one more, group 1 again", {4, {5, 1, 255, 1}}},
+    };
+    uint64_t state[MOST_WORDS];
+    for (size_t i = 0; i < sizeof wrong / sizeof *wrong; i++) {
+        with_groups(state, past, &wrong[i].groups);
+        no_state(wrong[i].name, state, 2, 3);
+    }
+}
+
+/* Of eight, each of them 0, and each two the same. */
+static void test_each_of_eight(const uint64_t *past) {
+    const struct adp_groups eight = {8, {11, 12, 13, 14, 15, 16, 17, 18}};
+    for (size_t i = 0; i < ADP_GROUPS; i++)
+        for (size_t j = i; j < ADP_GROUPS; j++) {
+            struct adp_groups groups = eight;
+            uint64_t state[MOST_WORDS];
+            char name[60];
+            groups.list[j] = i == j ? 0 : groups.list[i];
+            snprintf(name, sizeof name, "at place %zu of eight group %u", j, groups.list[j]);
+            with_groups(state, past, &groups);
+            no_state(name, state, 2, 3);
+        }
+}
+
+/* Past the groups anything may stand; any numbers from 1 to 255 are groups. */
+static void test_groups(const uint64_t *past) {
+    const struct grouped good[] = {
+        {"nothing past no groups", {0, {0}}}, {"junk past no groups", {0, {9, 9, 0, 5, 9, 9, 255, 9}}},
+        {"group 1 alone", {1, {1}}}, {"group 255 alone", {1, {255}}},
+        {"one group again and again", {1, {1, 1, 1, 1, 1, 1, 1, 1}}}, {"two of the groups", {2, {5, 1, 255}}},
+        {"some of three groups again", {3, {5, 1, 255, 5, 0, 1, 255, 7}}},
+        {"the last of seven groups again", {7, {1, 2, 3, 4, 5, 6, 7, 7}}},
+        {"seven groups and 0", {7, {255, 254, 253, 252, 251, 250, 249}}},
+        {"the first eight groups", {8, {1, 2, 3, 4, 5, 6, 7, 8}}},
+        {"the last eight groups", {8, {255, 254, 253, 252, 251, 250, 249, 248}}},
+    };
+    uint64_t state[MOST_WORDS];
+    for (size_t i = 0; i < sizeof good / sizeof *good; i++) {
+        with_groups(state, past, &good[i].groups);
+        is_state(good[i].name, state);
+        expect(good[i].name, &taken[ALIVE], state, ADP_STATE_WORDS, 0, state);
+        heard_in(good[i].name, state, &good[i].groups, 77);
+        kept(good[i].name, state, 2, 3);
+    }
+}
+
+/* The empty state has no groups either. */
+static void test_groups_of_nobody(void) {
+    const struct grouped wrong[] = {
+        {"no senders, and a group", {1, {5}}}, {"no senders, and group 0", {1, {0}}},
+        {"no senders, and eight groups", {8, {1, 2, 3, 4, 5, 6, 7, 8}}},
+        {"no senders, and 255 groups", {255, {1, 2, 3, 4, 5, 6, 7, 8}}},
+    };
+    uint64_t empty[MOST_WORDS] = {[WORD_N1] = 1, [WORD_T] = 1}, state[MOST_WORDS];
+    for (size_t i = 0; i < sizeof wrong / sizeof *wrong; i++) {
+        with_groups(state, empty, &wrong[i].groups);
+        no_state(wrong[i].name, state, 0, 0);
+    }
+}
+
+/* ---- what setup makes of groups */
+
+/* Past their number it writes 0, whatever it was given there. */
+static void setup_writes(const struct adp_groups *given) {
+    const char *name = "a new state with groups";
+    struct call call = {.kind = SETUP, .settings = two_senders(16)};
+    struct adp_groups groups = {.count = given->count};
+    uint64_t junk[ADP_STATE_WORDS], wanted[ADP_STATE_WORDS];
+    memset(junk, FILL, sizeof junk);
+    call.settings.groups = *given;
+    memcpy(groups.list, given->list, given->count);
+    make_new(wanted);
+    wanted[WORD_GROUP_COUNT] = groups.count;
+    wanted[WORD_GROUPS] = groups_word(groups.list);
+    expect(name, &call, junk, ADP_STATE_WORDS, 0, wanted);
+    heard_in(name, wanted, &groups, 77);
+}
+
+/* What it then writes is the empty state. */
+static void setup_refuses(const struct adp_groups *given) {
+    struct call call = {.kind = SETUP, .settings = two_senders(16)};
+    uint64_t junk[ADP_STATE_WORDS], wanted[ADP_STATE_WORDS] = {[WORD_N1] = 1, [WORD_T] = 1};
+    memset(junk, FILL, sizeof junk);
+    call.settings.groups = *given;
+    expect("groups outside their limits", &call, junk, ADP_STATE_WORDS, 10, wanted);
+}
+
+static void test_setup_groups(void) {
+    const struct adp_groups wrong[] = {
+        {9, {1, 2, 3, 4, 5, 6, 7, 8}}, {255, {1, 2, 3, 4, 5, 6, 7, 8}}, {1, {0}}, {3, {5, 1, 0}}, {3, {5, 1, 5}},
+        {8, {1, 2, 3, 4, 5, 6, 7, 1}}, {8, {1, 2, 3, 4, 5, 6, 7, 0}},
+    };
+    struct adp_groups eight = {0, {20, 19, 18, 17, 16, 15, 14, 255}}, again = {0, {9, 9, 0, 9, 9, 0, 9, 9}};
+    for (; eight.count <= ADP_GROUPS; eight.count++) setup_writes(&eight);
+    for (; again.count <= 1; again.count++) setup_writes(&again);
+    for (size_t i = 0; i < sizeof wrong / sizeof *wrong; i++) setup_refuses(&wrong[i]);
+}
+
 /* ---- NULL */
 
 static void answers(unsigned got, unsigned wanted, const char *name, enum kind kind) {
@@ -609,9 +802,16 @@ int main(void) {
     test_closed(state);
     test_past_the_count(state);
     test_held();
+    test_group_counts(state);
+    test_wrong_groups(state);
+    test_each_of_eight(state);
+    test_groups(state);
+    test_groups_of_nobody();
+    test_setup_groups();
+    test_multicast();
     null_words();
     null_octets(state);
     null_cut();
-    printf("%lu\n", made + held_calls());
+    printf("%lu\n", made + held_calls() + multicast_calls());
     return 0;
 }
