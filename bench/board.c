@@ -5,7 +5,7 @@
 
 /* Setup, for the nodes 1 to `senders` of data field 1. A refused one leaves the empty state, as on the other sides. */
 static void begin(uint64_t *state, uint8_t mode, uint16_t n1, uint32_t t, uint8_t senders) {
-    struct adp_settings settings = {mode, n1, t, senders, {{0, 0}}};
+    struct adp_settings settings = {.mode = mode, .n1 = n1, .t = t, .count = senders};
     for (unsigned i = 0; i < ADP_SENDERS; i++) {
         settings.senders[i].field = 1;
         settings.senders[i].node = (uint16_t)(i + 1);
