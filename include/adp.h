@@ -28,10 +28,10 @@ enum {
     ADP_PRIORITIES = 8,    /* entries of each sender and group in the tables of adp_multicast */
     ADP_AREA = 16384,      /* octets of storage for each sender, and the most octets of a message */
     ADP_HEADER = 64,       /* octets before a piece in its PDU */
-    ADP_LONGEST = 1460,    /* the most octets of a message's PDU, */
-    ADP_LONGEST_GROUP = 1472, /* and of one to a group */
+    ADP_LONGEST = 1460,    /* the most octets of a message's PDU */
     ADP_ALIVE = 128,       /* octets before the fault section in an alive signal's PDU */
     ADP_LONGEST_ALIVE = 1472,
+    ADP_LONGEST_GROUP = 1472, /* the most octets of a PDU to a group */
     ADP_LONGEST_FAULT = 1344, /* the most octets of a fault section */
     ADP_LEAST_UNIT = 256,     /* the least and the most octets of a piece but the last */
     ADP_MOST_UNIT = 1396
@@ -60,7 +60,7 @@ enum {
                            * or a buffer too short for a fault section */
     ADP_BAD_FAULT = 24,   /* octets that are no fault section, or parts of which none can be written */
     ADP_NO_GROUP = 25,    /* group not registered */
-    ADP_BAD_TABLES = 26   /* a table not of senders × groups × ADP_PRIORITIES entries, or anywhere in the two a number
+    ADP_BAD_TABLES = 26   /* a table not of senders * groups * ADP_PRIORITIES entries, or anywhere in the two a number
                            * above 2,147,483,647, or 0 under a version not 0 */
 };
 
@@ -164,10 +164,10 @@ struct adp_answer adp_message(uint64_t *state, size_t words, uint8_t *storage, s
 struct adp_answer adp_message_tallied(uint64_t *state, size_t words, uint8_t *storage, size_t room,
                                       const uint8_t *packet, size_t size, uint32_t *tally);
 
-/* Takes a PDU that came to a group, whose number the receiving port says: a message of one piece, delivered or refused,
- * from the packet; nothing is held or dropped, and the state stays. `versions` and `numbers` hold what was last delivered,
- * for each sender, group and priority, at (sender × groups + group) × ADP_PRIORITIES + PRI, all from 0 and in the order
- * of the settings. Both begin at 0; between calls the caller leaves them, and their state's settings, as they are. */
+/* Takes a PDU that came to a group, whose number the receiving port says: a message of one piece, which is delivered in
+ * the packet or refused; nothing is held or dropped, and the state stays. `versions` and `numbers` hold what was last
+ * delivered of each sender, group and priority, at (sender * groups + group) * ADP_PRIORITIES + PRI, all from 0 and in
+ * the order of the settings. Both begin at 0; between calls the caller leaves them as the last call left them. */
 struct adp_answer adp_multicast(const uint64_t *state, size_t words, uint32_t *versions, size_t version_entries,
                                 uint32_t *numbers, size_t number_entries, uint8_t group, const uint8_t *packet,
                                 size_t size);

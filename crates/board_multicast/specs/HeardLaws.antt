@@ -1,16 +1,13 @@
 -- What the multicast call looks at in words is what it looks at in the state that they are. Assumes nothing.
-use Prim.Native.Nat.{ℕ, _%_}
-use mathlib.Core.Path.{_≡_, refl, sym, ap, _∙_}
+use Prim.Native.Nat.{ℕ}
+use mathlib.Core.Path.{_≡_, sym, ap, _∙_}
 use mathlib.Core.Logic.{⊎-elim}
-use mathlib.Core.Bool.{Bool, true, false, _&&_}
+use mathlib.Core.Bool.{true, false}
 use mathlib.Core.List.{List}
-use native.Mathlib.Nat.{mod-eq-of-lt}
-use native.Mathlib.Omega.{arith}
 use lib.ListN.{length}
-use Rattle.octets.specs.Split.{true-or-false, never-both}
+use Rattle.octets.specs.Split.{true-or-false}
 use Rattle.header.specs.declared.Head.{Head}
 use Rattle.header.specs.Head.{headOf}
-use Rattle.groups.specs.declared.Groups.{Groups}
 use Rattle.state.specs.declared.Address.{Address}
 use Rattle.state.specs.declared.Look.{Look}
 use Rattle.state.specs.Limits.{valid}
@@ -18,17 +15,16 @@ use Rattle.state.specs.Table.{source, lookAt}
 use Rattle.state.specs.TableLaws.{look-valid}
 use Rattle.answers.specs.declared.Listener.{Listener}
 use Rattle.answers.specs.declared.Outcome.{Outcome}
-use Rattle.answers.specs.declared.Outcome.the-variants.{Refused}
 use Rattle.answers.specs.declared.Where.{Where}
 use Rattle.rules.specs.calls.Admit.{noneDropped}
-use Rattle.rules.specs.calls.Multicast.{Tables, handedBy, multicastAnswer, multicastTables}
+use Rattle.rules.specs.calls.Multicast.{Tables, handedBy}
 use Rattle.rules.specs.calls.MulticastLaws.{multicast-nine}
 use Rattle.multicast.specs.LentLaws.{Left, found-by, call-left, left-outside}
-use Rattle.words.specs.Words.{word, groupsIn, isState, stateIn}
+use Rattle.words.specs.Words.{isState, stateIn}
 use Rattle.words_look.specs.Look.{lookIn}
 use Rattle.words_look.specs.HeldLaws.{look-in, look-so, count-octet, n1-octets, groups-octet}
 use Rattle.board.specs.declared.Told.{Told}
-use Rattle.board.specs.Calls.{inNumbers, refusedWith, groupToldOf, multicastFor, tablesFor}
+use Rattle.board.specs.Calls.{inNumbers, refusedWith, multicastFor, tablesFor}
 use Rattle.board_multicast.specs.private.Heard.{listenerIn}
 
 -- What the call answered, and the tables that it left.

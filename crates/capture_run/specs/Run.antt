@@ -12,7 +12,7 @@ use Rattle.state.specs.State.{emptyReceiver}
 use Rattle.answers.specs.Told.{messageTold, callNumber, clockTold}
 use Rattle.rules.specs.calls.Message.{area}
 use Rattle.rules.specs.calls.Setup.{setupWithin}
-use Rattle.rules.specs.pasts.Past.{World, Event, message, alive, clock, aside, question, after, Said, Answers, answers, Start}
+use Rattle.rules.specs.pasts.Past.{World, Event, message, alive, clock, aside, after, Said, Answers, answers, Start}
 use Rattle.capture_fields.specs.declared.Kind.{Kind}
 use Rattle.capture_fields.specs.declared.Kind.the-variants as kind
 use Rattle.capture_fields.specs.declared.Next.the-variants as next

@@ -1,6 +1,6 @@
 -- A packet to a group is told what 02's rules say of setup's arguments and the tables that are lent. Assumes nothing.
-use Prim.Native.Nat.{ℕ, _*_, _≤_, _<_}
-use mathlib.Core.Path.{_≡_, refl, sym, ap, _∙_}
+use Prim.Native.Nat.{ℕ, _≤_, _<_}
+use mathlib.Core.Path.{_≡_, refl, ap, _∙_}
 use mathlib.Core.Logic.{⊎-elim}
 use mathlib.Core.Bool.{Bool, true, false, not, cond, _&&_}
 use mathlib.Core.List.{List, []}
@@ -16,7 +16,6 @@ use Rattle.header.specs.Head.{headOf}
 use Rattle.groups.specs.declared.Groups.{Groups}
 use Rattle.groups.specs.Groups as groups
 use Rattle.groups.specs.GroupsLaws.{kept-place, within-few}
-use Rattle.state.specs.declared.Receiver.{Receiver}
 use Rattle.state.specs.State.{Settings}
 use Rattle.state.specs.Table.{source, found}
 use Rattle.state.specs.WithinLaws.{valid-groups}
@@ -27,7 +26,7 @@ use Rattle.answers.specs.declared.Setup.{Setup}
 use Rattle.answers.specs.Told.{GroupTold, groupTold, deliveredAs, groupRefused}
 use Rattle.rules.specs.calls.First.{first}
 use Rattle.rules.specs.calls.FirstLaws.{first-none}
-use Rattle.rules.specs.calls.Multicast.{Tables, entryPlace, withEntry, placeFor, verdictIn, castRows, listening, castOutcome, keptBy, handedBy, groupAnswer, multicastAnswer, multicastTables}
+use Rattle.rules.specs.calls.Multicast.{Tables, withEntry, placeFor, verdictIn, castRows, listening, castOutcome, keptBy, handedBy, groupAnswer, multicastAnswer, multicastTables}
 use Rattle.rules.specs.calls.Part.{partOf}
 use Rattle.rules.specs.calls.SetupLaws.{setup-facts}
 use Rattle.rules.specs.pasts.Past.{World}
@@ -35,7 +34,7 @@ use Rattle.promised.specs.AgreesLaws.{Agrees}
 use Rattle.promised.specs.Judged.{hasLength, isMessage}
 use Rattle.promised.specs.JudgedLaws.{cast-length, message-head}
 use Rattle.promised.specs.Log.{Exchange, nameOf}
-use Rattle.promised.specs.Says.{sendersOf, groupsOf, placeOf, hasTables, rowsCast, entryFor, nameAt, verdictAfter, castBy, castSays}
+use Rattle.promised.specs.Says.{sendersOf, groupsOf, placeOf, hasTables, rowsCast, entryFor, nameAt, verdictAfter, castSays}
 use Rattle.promised.specs.MessageSaysLaws.{online-is}
 use Rattle.promised.specs.SaysLaws.{place-is, accepted-setup}
 

@@ -1,6 +1,6 @@
 -- The tables by the past alone: where they are handed on, each entry holds the version and number of the last message that was
 -- delivered there and not unchecked, or what it began with. Assumes nothing.
-use Prim.Native.Nat.{ℕ, _*_, _≤_, _<_}
+use Prim.Native.Nat.{ℕ, _*_, _<_}
 use mathlib.Core.Path.{_≡_, refl, sym, ap, subst, _∙_}
 use mathlib.Core.Logic.{_≢_, ⊎-elim}
 use mathlib.Core.Bool.{Bool, true, false, not, cond, _&&_}
@@ -17,25 +17,23 @@ use Rattle.header.specs.declared.Head.{Head}
 use Rattle.header.specs.Head.{headOf}
 use Rattle.groups.specs.declared.Groups.{Groups}
 use Rattle.groups.specs.Groups as groups
-use Rattle.groups.specs.Groups.{numberAt, groupsWithin, kept}
+use Rattle.groups.specs.Groups.{numberAt, groupsWithin}
 use Rattle.groups.specs.GroupsLaws.{kept-within, place-own, place-number}
 use Rattle.state.specs.declared.Address.{Address}
 use Rattle.state.specs.declared.Last.{Last}
 use Rattle.state.specs.Limits.{sameAddress, given, addressAt}
-use Rattle.state.specs.Table.{source, found}
+use Rattle.state.specs.Table.{source}
 use Rattle.state.specs.WithinLaws.{same-is, valid-groups}
 use Rattle.answers.specs.declared.Listener.{Listener}
-use Rattle.answers.specs.declared.Outcome.the-variants.{Refused, Delivered}
 use Rattle.answers.specs.declared.Setup.{Setup}
-use Rattle.answers.specs.Told.{groupTold, GroupTold}
 use Rattle.rules.specs.calls.First.{Row, row, first, Given}
 use Rattle.rules.specs.calls.FirstLaws.{first-none, first-append, numbered, first-given, given-above}
 use Rattle.rules.specs.calls.ExactlyLaws.{multicast-above, multicast-refuses}
-use Rattle.rules.specs.calls.Multicast.{Tables, entriesOf, entryPlace, entryAt, withEntry, placeFor, onePiece, verdictIn, castRows, listening, castOutcome, keptBy, multicastRows, multicastAnswer, multicastTables}
+use Rattle.rules.specs.calls.Multicast.{Tables, entriesOf, entryPlace, withEntry, placeFor, onePiece, verdictIn, castRows, listening, castOutcome, keptBy, multicastRows, multicastAnswer, multicastTables}
 use Rattle.rules.specs.calls.MulticastLaws.{Cast, cast-facts, cast-within, head-pri, place-apart, place-below, TablesWithin, tables-facts, entry-same, entry-other}
-use Rattle.rules.specs.pasts.Past.{World, Event, message, alive, clock, aside, question, multicast, step, said, Answers, answers, after}
+use Rattle.rules.specs.pasts.Past.{World, Event, message, alive, clock, aside, question, multicast, step, said, answers}
 use Rattle.promised.specs.AgreesLaws.{Agrees, agrees-step}
-use Rattle.promised.specs.CastLaws.{group-count, group-place, cast-entry, cast-says}
+use Rattle.promised.specs.CastLaws.{group-count, group-place, cast-entry}
 use Rattle.promised.specs.HandedOn.{HandedOn, lastHeard, castAfter}
 use Rattle.promised.specs.Judged.{hasLength, isMessage}
 use Rattle.promised.specs.JudgedLaws.{message-head}

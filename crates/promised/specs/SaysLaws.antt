@@ -2,15 +2,15 @@
 use Prim.Native.Nat.{ℕ, zero, suc, _+_, _-_, _≤_, _<_}
 use mathlib.Core.Path.{_≡_, refl, sym, ap, subst, _∙_}
 use mathlib.Core.Logic.{_≢_, ⊎-elim}
-use mathlib.Core.Bool.{Bool, true, false, not, cond, _||_, false≢true}
+use mathlib.Core.Bool.{Bool, true, false, not, _||_, false≢true}
 use mathlib.Core.List.{List, [], _∷_, List·Memᴰ, List·Memᴰ·head, List·Memᴰ·tail, List·Memᴰ·cases-cons, List·Memᴰ·not-nil}
 use native.Mathlib.Omega.{arith}
 use lib.Dec.{eqb, ltb}
 use lib.ListN.{length, getD}
-use borrow.Author.Tests.{eqb-true, eq-eqb, le-ltb, lt-ltb, ltb-true, ltb-false, not-true, not-false}
+use borrow.Author.Tests.{eqb-true, eq-eqb, le-ltb, lt-ltb, not-true, not-false}
 use Rattle.octets.specs.FirstPlace.{firstPlace}
 use Rattle.octets.specs.FirstPlaceLaws.{place-holds, place-before}
-use Rattle.octets.specs.Split.{eq-or-ne, lt-or-le, true-or-false, never-both, same-test, or-left, or-right, either}
+use Rattle.octets.specs.Split.{lt-or-le, true-or-false, never-both, same-test, or-left, or-right, either}
 use Rattle.header.specs.Head.{headOf}
 use Rattle.map.specs.Map.{bit, holds}
 use Rattle.state.specs.declared.Message.{Message}

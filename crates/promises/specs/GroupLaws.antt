@@ -1,25 +1,22 @@
 -- What 02 asks of packets to groups, after every past. Assumes nothing.
-use Prim.Native.Nat.{ℕ, zero, suc, _+_, _*_, _≤_, _<_}
+use Prim.Native.Nat.{ℕ, _+_, _*_, _≤_}
 use mathlib.Core.Path.{_≡_, refl, sym, ap, subst, _∙_}
 use mathlib.Core.Logic.{_≢_, _⊎_, inl, inr, ⊎-elim}
 use mathlib.Core.Bool.{Bool, true, false, not, _&&_, and-false}
-use mathlib.Core.List.{List, [], _∷_, _++_}
+use mathlib.Core.List.{List, [], _∷_}
 use native.Mathlib.Omega.{arith}
-use lib.Dec.{eqb, leb}
+use lib.Dec.{eqb}
 use lib.ListN.{length, drop, getD, replicate, length-append, length-replicate, getD-replicate}
 use lib.Seq.{drop-at}
 use borrow.Author.Tests.{le-leb, lt-leb, eq-eqb}
 use Rattle.octets.specs.Split.{eq-or-ne, never-both}
-use Rattle.ring.specs.declared.Verdict.{Verdict}
-use Rattle.header.specs.declared.Cut.{Cut as HeadCut}
 use Rattle.header.specs.declared.Given.{Given}
 use Rattle.header.specs.declared.Head.{Head}
 use Rattle.header.specs.Head.{headOf, header, isFixed}
 use Rattle.header.specs.HeadLaws.{read-back, written-fixed, length-header}
-use Rattle.header.specs.Places.{headerSize}
 use Rattle.cut.specs.Pieces.{pieces, pieceLength, piece, joined}
 use Rattle.cut.specs.PiecesLaws.{pieces-one, length-only, pieces-join}
-use Rattle.cut.specs.Cutter.{Words, pdu, headFor}
+use Rattle.cut.specs.Cutter.{pdu}
 use Rattle.cut.specs.ReadLaws.{GivenWithin, given-fits}
 use Rattle.groups.specs.Groups as groups
 use Rattle.state.specs.declared.Last.{Last}
@@ -27,25 +24,25 @@ use Rattle.state.specs.Limits.{lastWithin}
 use Rattle.state.specs.Table.{found}
 use Rattle.answers.specs.declared.Setup.{Setup}
 use Rattle.answers.specs.declared.Started.{Started}
-use Rattle.answers.specs.Told.{GroupTold, groupTold, deliveredAs}
+use Rattle.answers.specs.Told.{GroupTold}
 use Rattle.rules.specs.calls.ExactlyLaws.{multicast-refuses}
 use Rattle.rules.specs.calls.First.{Row, row, first}
 use Rattle.rules.specs.calls.First as rows
 use Rattle.rules.specs.calls.FirstLaws.{first-given}
 use Rattle.rules.specs.calls.Multicast.{Tables, entriesOf, entryPlace, entryAt, placeFor, castRows, listening, castOutcome, multicastRows, multicastTables, onePiece, tablesWithin}
 use Rattle.rules.specs.calls.MulticastLaws.{tables-of, cast-facts, head-pri, place-apart, kept-other}
-use Rattle.rules.specs.pasts.Past.{World, Event, aside, multicast, step, after, Said, said, Answers, answers}
-use Rattle.promised.specs.AgreesLaws.{Agrees, agrees-start}
+use Rattle.rules.specs.pasts.Past.{World, Event, aside, multicast, Answers}
+use Rattle.promised.specs.AgreesLaws.{agrees-start}
 use Rattle.promised.specs.CastLaws.{group-count}
-use Rattle.promised.specs.HandedOn.{HandedOn, lastHeard, castAfter}
+use Rattle.promised.specs.HandedOn.{HandedOn, lastHeard}
 use Rattle.promised.specs.HandedOnLaws.{Entries, entries-start, entries-after, cast-after}
 use Rattle.promised.specs.Judged.{hasLength, isMessage}
-use Rattle.promised.specs.Log.{toldBy, Exchange, logged, nameOf}
-use Rattle.promised.specs.Says.{sendersOf, groupsOf, hasTables, rowsCast, nameAt, verdictAfter, castBy, says}
+use Rattle.promised.specs.Log.{Exchange, logged, nameOf}
+use Rattle.promised.specs.Says.{sendersOf, groupsOf, hasTables, rowsCast, nameAt, verdictAfter, says}
 use Rattle.promises.specs.ComesBackLaws.{packet-is}
-use Rattle.promises.specs.Course.{SetupMeets, Meets, Course}
-use Rattle.promises.specs.CourseLaws.{one-call, one-course, course-start}
-use Rattle.promises.specs.Demands.{OwnEntryOnly, WithTables, EntryIsLast, ZerosPass, NeverTwentySix, CastSaid, GroupPdu, MayReach, GroupDelivers, CutToGroup}
+use Rattle.promises.specs.Course.{SetupMeets, Course}
+use Rattle.promises.specs.CourseLaws.{one-course, course-start}
+use Rattle.promises.specs.Demands.{OwnEntryOnly, EntryIsLast, ZerosPass, NeverTwentySix, CastSaid, GroupPdu, MayReach, GroupDelivers, CutToGroup}
 use Rattle.promises.specs.DemandsLaws.{every-said, calls-refuse, not-behind, course-agrees}
 
 -- ---- after a past in which the tables were handed on

@@ -1,5 +1,4 @@
 -- The header is read, the words looked at once, and the packet taken. Assumes nothing.
-use denote.Ref.{now}
 use Rattle.board_multicast.specs.HeardLaws.{met}
 use borrow.Author.Needs.{needs}
 use Rattle.board_multicast.proofs.adp_multicast.Statement.{statement}

@@ -2,11 +2,9 @@
 use Prim.Native.Nat.{ℕ}
 use mathlib.Core.Path.{_≡_, sym, ap, _∙_}
 use mathlib.Core.Bool.{Bool, not}
-use denote.Ref.{now}
 use borrow.Author.Tests.{le-leb, lt-leb}
 use Rattle.rules.specs.calls.First.{first}
 use Rattle.rules.specs.calls.Multicast.{Tables, tablesWithin}
-use Rattle.multicast.specs.Lent.{tables}
 use borrow.Author.Needs.{needs}
 use Rattle.multicast.proofs.early_number.Statement.{statement}
 use Rattle.multicast.proofs.early_number.Tie as tie

@@ -1,5 +1,4 @@
 -- The product of two octets fits a machine word. Assumes nothing.
-use Prim.Native.Nat.{_*_, _<_}
 use mathlib.Core.Path.{refl}
 use native.Mathlib.Omega.{arith}
 use Rattle.rules.specs.calls.Multicast.{entryPlace}

@@ -1,10 +1,7 @@
 -- Each return is the number of the first row that applies, and where none does the verdict. Assumes nothing.
-use mathlib.Core.Path.{_≡_, sym, ap, _∙_}
-use mathlib.Core.Bool.{not}
-use denote.Ref.{now}
+use mathlib.Core.Path.{sym, ap, _∙_}
 use borrow.Author.Tests.{not-true, not-false}
 use Rattle.ring.specs.Check.{isRepeat}
-use Rattle.multicast.specs.Lent.{tables}
 use Rattle.multicast.specs.LentLaws.{early-refused, late-mode, late-cut, late-repeat, late-none}
 use borrow.Author.Needs.{needs}
 use Rattle.multicast.proofs.outcome_of.Statement.{statement}

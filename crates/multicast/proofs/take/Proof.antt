@@ -1,7 +1,4 @@
 -- The entry is written where the delivery is kept, and otherwise nothing. Assumes nothing.
-use denote.Ref.{now}
-use borrow.Author.Tests.{not-true, not-false}
-use Rattle.multicast.specs.Lent.{tables}
 use Rattle.multicast.specs.LentLaws.{left-written, left-same}
 use borrow.Author.Needs.{needs}
 use Rattle.multicast.proofs.take.Statement.{statement}

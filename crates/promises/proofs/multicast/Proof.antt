@@ -1,7 +1,5 @@
 -- The relation is the contract. Assumes nothing.
 use mathlib.Core.Path.{refl, ap₂}
-use Prim.Native.Nat.{ℕ}
-use mathlib.Core.List.{List}
 use Rattle.multicast.specs.Lent.{tables}
 use borrow.Author.Needs.{needs}
 use Rattle.promises.proofs.multicast.Statement.{statement}

@@ -10,11 +10,11 @@ use lib.Dec.{eqb, ltb}
 use lib.ListN.{length, getD, set}
 use lib.Seq.{getD-set-same, getD-set-other}
 use borrow.Author.Tests.{ltb-true, eqb-true, not-false}
-use Rattle.octets.specs.Split.{eq-or-ne}
+use Rattle.octets.specs.Split.{eq-or-ne, true-or-false}
 use Rattle.header.specs.declared.Head.{Head}
 use Rattle.groups.specs.declared.Groups.{Groups}
 use Rattle.groups.specs.Groups.{kept}
-use Rattle.groups.specs.GroupsLaws.{alike-within}
+use Rattle.groups.specs.GroupsLaws.{alike-within, alike-place, within-few}
 use Rattle.signal.specs.Alive.{bodyOf}
 use Rattle.header.specs.Head.{headOf}
 use Rattle.map.specs.Map.{lowestMissing}
@@ -38,10 +38,12 @@ use Rattle.state.specs.LimitsLaws.{new-ext}
 use Rattle.state.specs.Table.{found}
 use Rattle.rules.specs.calls.Message.{packetRows, messageRows, messageNumber, whereBy, withSender, taken, refused, messageAnswer, messageStorage}
 use Rattle.rules.specs.calls.MessageLaws.{passed-facts, taken-facts}
+use Rattle.rules.specs.calls.Multicast.{Tables, castRows, castOutcome, multicastAnswer, multicastTables}
+use Rattle.rules.specs.calls.MulticastLaws.{multicast-nine}
 use Rattle.rules.specs.calls.Question.{firstOpen, missingOf, questionAnswer}
 use Rattle.state.specs.State.{noSender, senderAt, firstWhere, Settings, settingsFrom, stateOf, withGroups}
 use Rattle.rules.specs.calls.SeenLaws.{LooksAtSeen, looks-same, ChangesSeen, changes-same, looks-address, looks-open, looks-message, looks-within, looks-drops, looks-dies, changes-aged, changes-heard, looks-rows, looks-dropped, looks-held, looks-outcome, changes-after}
-use Rattle.state.specs.WithinLaws.{valid-length}
+use Rattle.state.specs.WithinLaws.{valid-groups, valid-length}
 
 -- What holds between the arms of two branches on one test holds between the branches.
 cond-two : {A : Type 0} (R : A → A → Type 0) (b : Bool) (x y p q : A) → (b ≡ true → R x p) → (b ≡ false → R y q) → R (cond b x y) (cond b p q)
@@ -106,6 +108,10 @@ clock-passed w now e = not-false (valid w) (first-none 9 (not (valid w)) _ (λ z
 -- A state with other groups and another table.
 abbrev withOthers : Receiver → Groups → List Sender → Receiver
 withOthers w g m = stateOf (withGroups (settingsFrom w) g) (w .clock) m
+
+-- The same is answered to a packet to a group, and the same tables are left.
+abbrev SameCast : Tables → ℕ → List ℕ → Receiver → Receiver → Type 0
+SameCast t x packet w v = (multicastAnswer w t x packet ≡ multicastAnswer v t x packet) × (multicastTables w t x packet ≡ multicastTables v t x packet)
 
 -- First for two states that differ in their tables, and in their groups past the count, alone.
 module _ (w : Receiver) (g : Groups) (same-groups : kept (w .groups) ≡ kept g) (m : List Sender) (a : AlikeTables (w .senders) m (w .count)) where
@@ -235,6 +241,21 @@ module _ (w : Receiver) (g : Groups) (same-groups : kept (w .groups) ≡ kept g)
   unfolding questionAnswer
   same-question = rw (same-valid, same-missing)
 
+  -- The multicast call. Of a state outside its limits it looks at nothing else, and of one within them at no group past the count.
+
+  same-cast : (t : Tables) (x : ℕ) (packet : List ℕ) → SameCast t x packet w other
+  same-cast t x packet = ⊎-elim
+      (λ (ok : valid w ≡ true). unfold multicastAnswer multicastTables castOutcome castRows in
+      let few = within-few g (valid-groups other (sym same-valid ∙ ok)) in
+      let place = alike-place (w .groups) g same-groups few x in
+      let count : w .groups .count ≡ g .count = ap (λ (y : Groups). y .count) same-groups in
+      (rw (← same-found (headOf packet), ← same-valid, place, count), rw (← same-found (headOf packet), ← same-valid, place, count)))
+      (λ (outside : valid w ≡ false).
+      let here = multicast-nine w t x packet outside in
+      let there = multicast-nine other t x packet (sym same-valid ∙ outside) in
+      (here .0 ∙ sym (there .0), here .1 ∙ sym (there .1)))
+      (true-or-false (valid w))
+
 -- Then for any two that are alike.
 module _ (w v : Receiver) (a : Alike w v) where
   by-tables : (P : Receiver → Type 0)
@@ -264,3 +285,6 @@ module _ (w v : Receiver) (a : Alike w v) where
 
   pub alike-question : questionAnswer w ≡ questionAnswer v
   alike-question = by-tables (λ (u : Receiver). questionAnswer w ≡ questionAnswer u) (same-question w)
+
+  pub alike-multicast : (t : Tables) (x : ℕ) (packet : List ℕ) → SameCast t x packet w v
+  alike-multicast t x packet = by-tables (SameCast t x packet w) (λ g c m b. same-cast w g c m b t x packet)

@@ -7,34 +7,27 @@ use mathlib.Core.Bool.{Bool, true, false, not, cond, _&&_, _||_}
 use mathlib.Core.List.{List}
 use native.Mathlib.Nat.{mul-le-mul-right}
 use native.Mathlib.Omega.{arith}
-use lib.Dec.{eqb, leb, ltb}
-use lib.ListN.{length, getD, set, length-set}
-use lib.Seq.{getD-set-same, getD-set-other, set-out}
-use borrow.Author.Tests.{leb-true, leb-false, ltb-true, ltb-false, lt-ltb, eqb-true, eq-eqb, not-true, not-false}
-use Rattle.octets.specs.Split.{lt-or-le, eq-or-ne, true-or-false, cond-case, both, and-left, and-right}
+use lib.Dec.{eqb, leb}
+use lib.ListN.{length, length-set}
+use lib.Seq.{getD-set-same, getD-set-other}
+use borrow.Author.Tests.{leb-true, leb-false, lt-ltb, eqb-true, eq-eqb, not-false}
+use Rattle.octets.specs.Split.{lt-or-le, eq-or-ne, cond-case, both, and-left, and-right}
 use Rattle.ring.specs.Ring.{M, isNumber}
 use Rattle.ring.specs.Check.{isRepeat, isUnchecked}
-use Rattle.header.specs.declared.Cut.{Cut}
 use Rattle.header.specs.declared.Head.{Head}
 use Rattle.header.specs.Codes.{isUser, isPri, isMode}
 use Rattle.header.specs.Head.{headOf, isFixed, lengthOutside}
 use Rattle.header.specs.Places.{headerSize}
 use Rattle.groups.specs.Groups.{placeOf}
-use Rattle.state.specs.declared.Last.{Last}
-use Rattle.state.specs.declared.Look.{Look}
 use Rattle.state.specs.declared.Receiver.{Receiver}
-use Rattle.state.specs.declared.Address.{Address}
 use Rattle.state.specs.Limits.{lastWithin, valid}
-use Rattle.state.specs.Table.{source, found, lookAt}
-use Rattle.state.specs.TableLaws.{look-valid, look-place}
 use Rattle.answers.specs.declared.Listener.{Listener}
 use Rattle.answers.specs.declared.Outcome.{Outcome}
-use Rattle.answers.specs.declared.Outcome.the-variants.{Refused, Stored, Delivered}
+use Rattle.answers.specs.declared.Outcome.the-variants.{Refused, Delivered}
 use Rattle.rules.specs.calls.First.{first}
-use Rattle.rules.specs.calls.FirstLaws.{first-here, first-none, first-neither, numbered}
+use Rattle.rules.specs.calls.FirstLaws.{first-here, first-none}
 use Rattle.rules.specs.calls.Message.{headWithin}
-use Rattle.rules.specs.calls.MessageLaws.{or-false}
-use Rattle.rules.specs.calls.Multicast.{Tables, priorities, entriesOf, entryPlace, entryAt, withEntry, eachEntry, tablesWithin, mostCast, onePiece, placeFor, verdictIn, earlyCastRows, lateCastRows, castRows, listening, castOutcome, isKept, keptBy, castTables, groupAnswer, multicastAnswer, multicastTables}
+use Rattle.rules.specs.calls.Multicast.{Tables, priorities, entriesOf, entryPlace, entryAt, withEntry, eachEntry, tablesWithin, mostCast, onePiece, placeFor, verdictIn, castRows, listening, castOutcome, isKept, keptBy, castTables, groupAnswer, multicastAnswer, multicastTables}
 
 -- ---- what is known where no number applies
 

@@ -1,5 +1,4 @@
 -- The group's number, an octet. Assumes nothing.
-use Prim.Native.Nat.{_<_}
 use mathlib.Core.Path.{ap}
 use native.Mathlib.Omega.{arith}
 use Rattle.groups.specs.declared.Group.{Group}

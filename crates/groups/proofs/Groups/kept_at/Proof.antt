@@ -1,6 +1,4 @@
 -- Each way out is an arm of the definition. Assumes nothing.
-use mathlib.Core.Path.{_∙_}
-use native.Mathlib.Omega.{arith}
 use borrow.Author.Needs.{needs}
 use borrow.Author.Tests.{lt-ltb, le-ltb}
 use Rattle.groups.specs.Groups.{keptAt}

@@ -1,9 +1,8 @@
 -- After i turns the first i groups have been judged. Assumes nothing.
 use Prim.Native.Nat.{ℕ, _-_, _≤_}
 use mathlib.Core.Path.{_≡_, refl, sym, ap, _∙_}
-use mathlib.Core.Bool.{true, false, _&&_}
 use native.Mathlib.Omega.{arith}
-use lib.Dec.{leb, eqb}
+use lib.Dec.{eqb}
 use borrow.Author.Tests.{lt-leb, le-leb}
 use Rattle.groups.specs.declared.Group.{Group}
 use Rattle.groups.specs.Groups.{groupsMost, isGroup, numberAt, placeAmong, eachGroup, groupsWithin}
