@@ -3,13 +3,15 @@
  * answers what the other two sides do, and assumes as they do that the packets lie one behind the other. */
 #include "twin.h"
 
-/* Setup, for the nodes 1 to `senders` of data field 1. A refused one leaves the empty state, as on the other sides. */
-static void begin(uint64_t *state, uint8_t mode, uint16_t n1, uint32_t t, uint8_t senders) {
-    struct adp_settings settings = {.mode = mode, .n1 = n1, .t = t, .count = senders};
+/* Setup, for the nodes 1 to `senders` of data field 1 and the groups 1 to `groups`. A refused one leaves the empty
+ * state, as on the other sides. */
+static void begin(uint64_t *state, uint8_t mode, uint16_t n1, uint32_t t, uint8_t senders, uint8_t groups) {
+    struct adp_settings settings = {.mode = mode, .n1 = n1, .t = t, .count = senders, .groups.count = groups};
     for (unsigned i = 0; i < ADP_SENDERS; i++) {
         settings.senders[i].field = 1;
         settings.senders[i].node = (uint16_t)(i + 1);
     }
+    for (unsigned i = 0; i < ADP_GROUPS; i++) settings.groups.list[i] = (uint8_t)(i + 1);
     adp_setup(state, ADP_STATE_WORDS, settings);
 }
 
@@ -30,7 +32,7 @@ static uint64_t run(uint64_t *state, const uint8_t *packets, size_t octets, cons
 uint64_t board_night(uint8_t mode, uint16_t n1, uint32_t t, uint8_t senders, const uint8_t *packets, size_t octets,
                      const uint16_t *sizes, size_t count, uint8_t *storage, size_t room) {
     uint64_t state[ADP_STATE_WORDS];
-    begin(state, mode, n1, t, senders);
+    begin(state, mode, n1, t, senders, 0);
     return run(state, packets, octets, sizes, count, storage, room);
 }
 
@@ -38,9 +40,25 @@ uint64_t board_pages(uint8_t mode, uint16_t n1, uint32_t t, uint8_t senders, con
                      const uint16_t *sizes, size_t count, uint8_t *storage, size_t room, const uint8_t *places,
                      size_t asked) {
     uint64_t state[ADP_STATE_WORDS], sum = 0;
-    begin(state, mode, n1, t, senders);
+    begin(state, mode, n1, t, senders, 0);
     run(state, packets, octets, sizes, count, storage, room);
     for (size_t i = 0; i < asked; i++) sum += adp_held(state, ADP_STATE_WORDS, places[i]);
+    return sum;
+}
+
+uint64_t board_casts(uint8_t mode, uint16_t n1, uint32_t t, uint8_t senders, uint8_t groups, const uint8_t *packets,
+                     size_t octets, const uint16_t *sizes, const uint8_t *to, size_t count, uint32_t *versions,
+                     uint32_t *numbers, size_t entries) {
+    uint64_t state[ADP_STATE_WORDS], sum = 0;
+    size_t at = 0;
+    begin(state, mode, n1, t, senders, groups);
+    for (size_t i = 0; i < count; i++) {
+        size_t size = sizes[i] < octets - at ? sizes[i] : octets - at;
+        struct adp_answer a =
+            adp_multicast(state, ADP_STATE_WORDS, versions, entries, numbers, entries, to[i], packets + at, size);
+        sum += (a.number > ADP_DELIVERED ? a.number : a.verdict) + a.held * 256ull + a.length;
+        at += size;
+    }
     return sum;
 }
 

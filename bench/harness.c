@@ -10,22 +10,26 @@
 #include <stdlib.h>
 #include <string.h>
 
-enum { V_SEQ = 16, SEQ = 20, NODE = 10, TCD = 40, MODE = 52, CBN = 56, BSIZE = 58, FUI = 60 };
+enum { ML = 4, V_SEQ = 16, SEQ = 20, NODE = 10, TCD = 40, MODE = 52, PRI = 55, CBN = 56, BSIZE = 58, FUI = 60 };
 enum { MODE_ONLINE = 0, N1 = 8, T = 1000, MOST_ROUNDS = 4096, SIDES = 3 };
 
 /* the packets of a night, one behind the other */
 static uint8_t *packets;
 static uint16_t *sizes;
 static size_t octets, count;
-static uint8_t content[AREA], pdus[65][LONGEST];
+static uint8_t content[AREA], pdus[65][LONGEST_GROUP];
 static uint8_t storages[SIDES][PLACES * AREA];
+/* of a multicast, the group that each packet came to, and the lent tables */
+static uint8_t *to;
+static uint32_t versions[SIDES][MOST_ENTRIES], numbers[SIDES][MOST_ENTRIES];
 /* the places that the page asks, one behind the other */
 static uint8_t places[MOST_ROUNDS * PLACES];
 
 struct night {
     const char *name;
-    enum { JOIN, REFUSED, MIXED, PAGE, CUT, SECTION_READ, SECTION_SHOWN, SECTION_WRITTEN } kind;
-    /* of a join, a page and a cutting: n octets in pieces of u; of a fault section: n modules, u errors */
+    /* SHORT_CAST: a multicast with tables that are an entry short */
+    enum { JOIN, REFUSED, MIXED, PAGE, CAST, SHORT_CAST, CUT, SECTION_READ, SECTION_SHOWN, SECTION_WRITTEN } kind;
+    /* of a join, a page, a multicast and a cutting: n octets in pieces of u; of a fault section: n modules, u errors */
     uint16_t n, u;
     uint8_t senders;
     bool reversed;
@@ -59,6 +63,18 @@ static const struct night nights[] = {
     {"refused with 20, 1 sender", REFUSED, 2792, 1396, 1, false, 20},
     {"a mixture, 4 senders", MIXED, 2792, 1396, 4, false, 0},
     {"the page, 16 senders", PAGE, 16384, 1396, 16, false, 0},
+    {"multicast of 10, 1024 entries", CAST, 10, 1408, 16, false, 0},
+    {"multicast of 1408, 1024 entries", CAST, 1408, 1408, 16, false, 0},
+    {"multicast refused with 17, 1024 entries", CAST, 1408, 1408, 16, false, 17},
+    {"multicast refused with 25, 1024 entries", CAST, 1408, 1408, 16, false, 25},
+    {"multicast refused with 26, 1024 entries", CAST, 1408, 1408, 16, false, 26},
+    {"multicast refused with 26, 1023 entries", SHORT_CAST, 1408, 1408, 16, false, 26},
+    {"multicast of 10, 8 entries", CAST, 10, 1408, 1, false, 0},
+    {"multicast of 1408, 8 entries", CAST, 1408, 1408, 1, false, 0},
+    {"multicast refused with 17, 8 entries", CAST, 1408, 1408, 1, false, 17},
+    {"multicast refused with 25, 8 entries", CAST, 1408, 1408, 1, false, 25},
+    {"multicast refused with 26, 8 entries", CAST, 1408, 1408, 1, false, 26},
+    {"multicast refused with 26, 7 entries", SHORT_CAST, 1408, 1408, 1, false, 26},
     {"cut into 12 pieces", CUT, 16384, 1396, 1, false, 0},
     {"cut into 64 pieces", CUT, 16384, 256, 1, false, 0},
     {"cut into 1 piece of 1396", CUT, 1396, 1396, 1, false, 0},
@@ -85,11 +101,18 @@ static void fail(const char *what, const char *which) {
 
 static bool is_section(const struct night *k) { return k->kind >= SECTION_READ; }
 
+static bool is_cast(const struct night *k) { return k->kind == CAST || k->kind == SHORT_CAST; }
+
 static enum sections section_work(const struct night *k) {
     return k->kind == SECTION_READ ? READ : k->kind == SECTION_SHOWN ? SHOWN : WRITTEN;
 }
 
 static unsigned pieces(const struct night *k) { return k->n <= k->u ? 1 : (k->n - 1u) / k->u + 1u; }
+
+/* Of a multicast, how many groups there are, one for two senders, and how many entries the tables should have. */
+static unsigned groups(const struct night *k) { return (k->senders + 1u) / 2; }
+
+static size_t entries(const struct night *k) { return (size_t)k->senders * groups(k) * PRIORITIES; }
 
 /* How many pieces of the sender at a place are held when the page asks: not all, and not as many as of the next. */
 static unsigned held(const struct night *k, unsigned place) {
@@ -107,6 +130,15 @@ static uint64_t all_held(const struct night *k) {
 /* The pieces of the message, each once: what differs from round to round is then only written over. */
 static void cut_all(const struct night *k) {
     for (unsigned c = 1; c <= pieces(k); c++) twin_cuts(1, content, k->n, k->u, (uint8_t)c, pdus[c], LONGEST);
+}
+
+/* The one PDU of a multicast, which may be longer than what the cutter makes. */
+static void make_cast(const struct night *k) {
+    unsigned size = HEADER + k->n;
+    twin_cuts(1, content, 0, 1396, 1, pdus[1], LONGEST);
+    memcpy(pdus[1] + HEADER, content, k->n);
+    pdus[1][ML + 2] = pdus[1][BSIZE] = (uint8_t)(size >> 8);
+    pdus[1][ML + 3] = pdus[1][BSIZE + 1] = (uint8_t)size;
 }
 
 /* Puts piece c of the message with this number from this node behind the others, and hands it back to be changed. */
@@ -149,6 +181,24 @@ static void page_rounds(const struct night *k, unsigned rounds) {
     for (unsigned i = 0; i < rounds * PLACES; i++) places[i] = (uint8_t)(i % PLACES);
 }
 
+/* The priority of what a sender sends to a group. */
+static unsigned priority(unsigned node, unsigned group) { return (node + group) % PRIORITIES; }
+
+/* A round of multicasts: a message from every sender to every group. */
+static void cast_round(const struct night *k, unsigned round) {
+    for (unsigned node = 1; node <= k->senders; node++)
+        for (unsigned group = 1; group <= groups(k); group++) {
+            to[count] = (uint8_t)(k->number == 25 ? GROUPS + 1 : group);
+            put(k, node, k->number == 17 ? 1 : round + 1, 1)[PRI] = (uint8_t)priority(node, group);
+        }
+}
+
+/* The lent tables before a night: nothing was delivered, but for 26 the last entry is 0 under a version not 0. */
+static void prepare_tables(const struct night *k) {
+    for (unsigned side = 0; side < SIDES; side++)
+        if (k->kind == CAST && k->number == 26) versions[side][entries(k) - 1] = 1;
+}
+
 /* A number below `below`, the same in every run. */
 static unsigned chance(unsigned below) {
     static uint32_t seed = 1;
@@ -175,18 +225,24 @@ static void prepare(const struct night *k, unsigned rounds) {
         sections_prepare(k->n, k->u, k->number, rounds);
         return;
     }
-    size_t most = (size_t)(rounds + 1) * PLACES * pieces(k);
-    packets = malloc(most * LONGEST);
+    size_t most = (size_t)(rounds + 1) * PLACES * (is_cast(k) ? GROUPS : pieces(k));
+    packets = malloc(most * LONGEST_GROUP);
     sizes = malloc(most * sizeof *sizes);
-    if (packets == NULL || sizes == NULL) fail("no memory", k->name);
+    to = malloc(most * sizeof *to);
+    if (packets == NULL || sizes == NULL || to == NULL) fail("no memory", k->name);
     for (size_t i = 0; i < sizeof content; i++) content[i] = (uint8_t)(i * 7 + i / 251);
     if (k->kind == CUT) return;
-    cut_all(k);
+    if (is_cast(k)) {
+        make_cast(k);
+        prepare_tables(k);
+    } else
+        cut_all(k);
     if (k->kind == PAGE) page_rounds(k, rounds);
     for (unsigned round = 0; round < rounds; round++) {
         if (k->kind == JOIN) join_round(k, round);
         if (k->kind == REFUSED) refused_round(k, round);
         if (k->kind == MIXED) mixed_round(k, round);
+        if (is_cast(k)) cast_round(k, round);
     }
 }
 
@@ -197,16 +253,19 @@ static const struct side {
     const char *name;
     night_call *night;
     pages_call *pages;
+    casts_call *casts;
     cuts_call *cuts;
     struct section_calls sections;
 } sides[SIDES] = {
-    {"value", adp_night, adp_pages, adp_cuts, {NULL, NULL, NULL}},
-    {"board", board_night, board_pages, board_cuts, {board_reads, board_shows, board_writes}},
-    {"twin", twin_night, twin_pages, twin_cuts, {twin_reads, twin_shows, twin_writes}},
+    {"value", adp_night, adp_pages, NULL, adp_cuts, {NULL, NULL, NULL}},
+    {"board", board_night, board_pages, board_casts, board_cuts, {board_reads, board_shows, board_writes}},
+    {"twin", twin_night, twin_pages, twin_casts, twin_cuts, {twin_reads, twin_shows, twin_writes}},
 };
 
-/* Fault sections have no side by value. */
-static bool has(const struct night *k, unsigned side) { return !is_section(k) || sides[side].sections.reads != NULL; }
+/* Multicasts and fault sections have no side by value. */
+static bool has(const struct night *k, unsigned side) {
+    return (!is_section(k) || sides[side].sections.reads != NULL) && (!is_cast(k) || sides[side].casts != NULL);
+}
 
 static uint64_t run_night(const struct night *k, night_call *call, uint8_t *storage) {
     size_t room = (size_t)k->senders * AREA - (k->number == 11);
@@ -219,6 +278,11 @@ static uint64_t run_pages(const struct night *k, unsigned side, const uint8_t *a
                              many);
 }
 
+static uint64_t run_casts(const struct night *k, unsigned side) {
+    return sides[side].casts(MODE_ONLINE, N1, T, k->senders, (uint8_t)groups(k), packets, octets, sizes, to, count,
+                             versions[side], numbers[side], entries(k) - (k->kind == SHORT_CAST));
+}
+
 static uint64_t run_cuts(const struct night *k, cuts_call *call, uint8_t *buffer, unsigned rounds) {
     uint64_t sum = 0;
     for (unsigned round = 0; round < rounds; round++)
@@ -229,6 +293,7 @@ static uint64_t run_cuts(const struct night *k, cuts_call *call, uint8_t *buffer
 static uint64_t run(const struct night *k, unsigned side, unsigned rounds) {
     if (k->kind == CUT) return run_cuts(k, sides[side].cuts, storages[side], rounds);
     if (k->kind == PAGE) return run_pages(k, side, places, (size_t)rounds * PLACES);
+    if (is_cast(k)) return run_casts(k, side);
     return run_night(k, sides[side].night, storages[side]);
 }
 
@@ -283,6 +348,35 @@ static void expect(const struct night *k, uint64_t sum, unsigned rounds) {
         fail("not every packet was refused with its number", k->name);
 }
 
+/* Whether a side's tables have the last number that was delivered, under version 1, and else what they began with. */
+static bool tables_right(const struct night *k, unsigned side, unsigned rounds) {
+    static uint32_t right_versions[MOST_ENTRIES], right_numbers[MOST_ENTRIES];
+    memset(right_versions, 0, sizeof right_versions);
+    memset(right_numbers, 0, sizeof right_numbers);
+    if (k->kind == CAST && k->number == 26) right_versions[entries(k) - 1] = 1;
+    for (unsigned node = 1; node <= k->senders && k->number < 25; node++)
+        for (unsigned group = 1; group <= groups(k); group++) {
+            size_t at = ((node - 1u) * groups(k) + group - 1) * PRIORITIES + priority(node, group);
+            right_versions[at] = 1;
+            right_numbers[at] = k->number == 17 ? 1 : rounds;
+        }
+    return memcmp(versions[side], right_versions, sizeof right_versions) == 0 &&
+           memcmp(numbers[side], right_numbers, sizeof right_numbers) == 0;
+}
+
+/* Each side's sum and tables against what they must be: first, and then next, 17, or the number. */
+static void compare_casts(const struct night *k, unsigned rounds) {
+    uint64_t more = rounds - 1, each = 1 + k->n + more * (2u + k->n);
+    if (k->number == 17) each = 1 + k->n + more * 17;
+    if (k->number > 17) each = (uint64_t)rounds * k->number;
+    for (unsigned side = 0; side < SIDES; side++) {
+        if (!has(k, side)) continue;
+        if (run(k, side, rounds) != (uint64_t)k->senders * groups(k) * each)
+            fail("a multicast is not answered right", k->name);
+        if (!tables_right(k, side, rounds)) fail("the tables are not what was delivered", k->name);
+    }
+}
+
 /* Each answer and each octet against what it must be. */
 static void compare_sections(const struct night *k, unsigned rounds) {
     for (unsigned side = 0; side < SIDES; side++)
@@ -293,6 +387,10 @@ static void compare_sections(const struct night *k, unsigned rounds) {
 static void compare(const struct night *k, unsigned rounds) {
     if (is_section(k)) {
         compare_sections(k, rounds);
+        return;
+    }
+    if (is_cast(k)) {
+        compare_casts(k, rounds);
         return;
     }
     uint64_t first = run(k, 0, rounds);

@@ -1,6 +1,6 @@
 /* The same work in plain C, written for speed: the state stays behind a pointer, a sender's record is changed in place, and a PDU's fields are
- * read where they lie. It makes the same checks, 9 and 11 to 20, the cutter's 23, a section's 24 and its writer's 23, in the same order, and
- * gives the same answers. */
+ * read where they lie. It makes the same checks, 9 and 11 to 20, of a packet to a group 25 and 26, the cutter's 23, a section's 24 and its
+ * writer's 23, in the same order, and gives the same answers. */
 #include "twin.h"
 
 #include <stdbool.h>
@@ -34,7 +34,8 @@ struct sender {
 
 struct receiver {
     bool test;
-    uint8_t count;
+    uint8_t count, group_count;
+    uint8_t groups[GROUPS];
     uint16_t n1;
     uint32_t t;
     uint64_t clock;
@@ -112,9 +113,22 @@ static inline bool sender_within(const struct sender *s, uint64_t clock) {
            (!s->open || message_within(&s->message, clock)) && (!s->alive || s->heard <= clock);
 }
 
+/* Groups are 1 to 255, none twice: each is marked in a set of bits, 0 from the start. */
+static inline bool groups_within(const struct receiver *r) {
+    if (r->group_count == 0) return true;
+    if (r->group_count > GROUPS) return false;
+    uint64_t seen[4] = {1};
+    for (unsigned i = 0; i < r->group_count; i++) {
+        uint64_t *part = &seen[r->groups[i] / 64], bit = 1ull << r->groups[i] % 64;
+        if (*part & bit) return false;
+        *part |= bit;
+    }
+    return true;
+}
+
 static inline bool settings_within(const struct receiver *r) {
-    return r->clock <= CLOCK_MOST && r->count <= PLACES && r->n1 - 1u < 1024 && r->t - 1 < 600000 &&
-           (r->count > 0 || (!r->test && r->n1 == 1 && r->t == 1));
+    return r->clock <= CLOCK_MOST && r->count <= PLACES && r->n1 - 1u < 1024 && r->t - 1 < 600000 && groups_within(r) &&
+           (r->count > 0 || (!r->test && r->n1 == 1 && r->t == 1 && r->group_count == 0));
 }
 
 /* One pass over the table: 9, or the place of the sender with this address, the count where none has it. */
@@ -171,12 +185,13 @@ static inline uint32_t back_of(uint32_t last, uint32_t this) {
     return last >= this ? last - this : last + M - this;
 }
 
-static inline enum verdict number_check(const struct receiver *r, const struct sender *s, uint32_t version, uint32_t number, uint32_t *skipped) {
+static inline enum verdict number_check(const struct receiver *r, uint32_t last_version, uint32_t last_number, uint32_t version,
+                                        uint32_t number, uint32_t *skipped) {
     *skipped = 0;
     if (version == 0 && number == 1) return UNCHECKED;
-    if (s->last_version == 0) return FIRST;
-    if (version != s->last_version) return RESTART;
-    uint32_t back = back_of(s->last_number, number);
+    if (last_version == 0) return FIRST;
+    if (version != last_version) return RESTART;
+    uint32_t back = back_of(last_number, number);
     if (back < r->n1) return REPEAT;
     if (back == M - 1) return NEXT;
     *skipped = M - 1 - back;
@@ -198,7 +213,7 @@ static inline uint8_t sender_number(const struct receiver *r, const struct sende
     uint32_t version = read4(packet + V_SEQ), number = read4(packet + SEQ);
     if (read2(packet + MODE) == 1 && !r->test) return 15;
     if (!possible(packet, size, c)) return 16;
-    a->verdict = number_check(r, s, version, number, &a->skipped);
+    a->verdict = number_check(r, s->last_version, s->last_number, version, number, &a->skipped);
     if (a->verdict == REPEAT) return 17;
     if (!s->open || m->version != version) return 0;
     if (number != m->number) return back_of(m->number, number) <= HALF ? 18 : 0;
@@ -252,22 +267,89 @@ static inline struct answer message(struct receiver *r, uint8_t *storage, size_t
     return a;
 }
 
+/* ---- a PDU to a group */
+
+/* The lent tables, of so many entries each. */
+struct tables {
+    uint32_t *versions, *numbers;
+    size_t version_entries, number_entries;
+};
+
+/* 26 otherwise. All entries are looked at, so that it compiles to comparisons of four at once: what is above M, and what stands over a number
+ * of 0, stays. */
+static inline bool tables_within(const struct tables *l, size_t entries) {
+    uint32_t high = 0, over = 0;
+    if (l->version_entries != entries || l->number_entries != entries) return false;
+    for (size_t i = 0; i < entries; i++) {
+        uint32_t version = l->versions[i], number = l->numbers[i];
+        high |= number;
+        over |= number == 0 ? version : 0;
+    }
+    return high <= M && over == 0;
+}
+
+static inline unsigned group_place(const struct receiver *r, uint8_t group) {
+    unsigned i = 0;
+    while (i < r->group_count && r->groups[i] != group) i++;
+    return i;
+}
+
+/* All but 17; the entry is then known. */
+static inline uint8_t cast_number(const struct receiver *r, const struct tables *l, uint8_t group, const uint8_t *packet, size_t size, size_t *entry) {
+    uint32_t address = size < HEADER ? 0 : (uint32_t)packet[DATA_FIELD] << 16 | read2(packet + NODE);
+    unsigned at, place;
+    if (!look(r, address, &at)) return 9;
+    if (!tables_within(l, (size_t)r->count * r->group_count * PRIORITIES)) return 26;
+    if (size < HEADER || size > LONGEST_GROUP || size != read2(packet + BSIZE)) return 12;
+    if (!head_within(packet)) return 13;
+    if (at >= r->count) return 14;
+    place = group_place(r, group);
+    if (place >= r->group_count) return 25;
+    if (read2(packet + MODE) == 1 && !r->test) return 15;
+    if (packet[CBN] != 1 || packet[TBN] != 1 || read4(packet + ML) != size) return 16;
+    *entry = ((size_t)at * r->group_count + place) * PRIORITIES + packet[PRI];
+    return 0;
+}
+
+static inline struct answer multicast(const struct receiver *r, const struct tables *l, uint8_t group, const uint8_t *packet, size_t size) {
+    struct answer a = {0};
+    size_t entry;
+    a.number = cast_number(r, l, group, packet, size, &entry);
+    if (a.number != 0) return a;
+    uint32_t version = read4(packet + V_SEQ), number = read4(packet + SEQ);
+    a.verdict = number_check(r, l->versions[entry], l->numbers[entry], version, number, &a.skipped);
+    if (a.verdict == REPEAT) {
+        a.number = 17;
+        return a;
+    }
+    if (a.verdict != UNCHECKED) {
+        l->versions[entry] = version;
+        l->numbers[entry] = number;
+    }
+    a.number = 1;
+    a.part = packet + HEADER;
+    a.length = size - HEADER;
+    return a;
+}
+
 /* ---- a night */
 
-/* Setup, for the nodes 1 to `senders` of data field 1. */
-static void begin(struct receiver *r, uint8_t mode, uint16_t n1, uint32_t t, uint8_t senders) {
+/* Setup, for the nodes 1 to `senders` of data field 1 and the groups 1 to `groups`. */
+static void begin(struct receiver *r, uint8_t mode, uint16_t n1, uint32_t t, uint8_t senders, uint8_t groups) {
     memset(r, 0, sizeof *r);
     r->n1 = 1;
     r->t = 1;
-    if (mode > 1 || n1 - 1u >= 1024 || t - 1 >= 600000 || senders - 1u >= PLACES) return;
+    if (mode > 1 || n1 - 1u >= 1024 || t - 1 >= 600000 || senders - 1u >= PLACES || groups > GROUPS) return;
     r->test = mode == 1;
     r->n1 = n1;
     r->t = t;
     r->count = senders;
+    r->group_count = groups;
     for (unsigned i = 0; i < senders; i++) {
         r->senders[i].field = 1;
         r->senders[i].node = (uint16_t)(i + 1);
     }
+    for (unsigned i = 0; i < groups; i++) r->groups[i] = (uint8_t)(i + 1);
 }
 
 /* How many pieces of the sender at a place are held: the number kept. */
@@ -282,7 +364,7 @@ __attribute__((noinline, noclone)) static uint64_t night(uint8_t mode, uint16_t 
     struct receiver r;
     uint64_t sum = 0;
     size_t at = 0;
-    begin(&r, mode, n1, t, senders);
+    begin(&r, mode, n1, t, senders, 0);
     for (size_t i = 0; i < count; i++) {
         size_t size = sizes[i] < octets - at ? sizes[i] : octets - at;
         struct answer a = message(&r, storage, room, packets + at, size);
@@ -306,6 +388,29 @@ uint64_t twin_pages(uint8_t mode, uint16_t n1, uint32_t t, uint8_t senders, cons
     night(mode, n1, t, senders, packets, octets, sizes, count, storage, room, &r);
     for (size_t i = 0; i < asked; i++) sum += held(&r, places[i]);
     return sum;
+}
+
+/* Packet after packet, each to its group. A function by itself: where the setup is seen, which no packet to a group changes, the limits of the
+ * senders would not be looked at. */
+__attribute__((noipa)) static uint64_t casts(const struct receiver *r, const uint8_t *packets, size_t octets, const uint16_t *sizes,
+                                             const uint8_t *to, size_t count, const struct tables *lent) {
+    uint64_t sum = 0;
+    size_t at = 0;
+    for (size_t i = 0; i < count; i++) {
+        size_t size = sizes[i] < octets - at ? sizes[i] : octets - at;
+        struct answer a = multicast(r, lent, to[i], packets + at, size);
+        sum += (a.number > 1 ? a.number : a.verdict) + a.held * 256ull + a.length;
+        at += size;
+    }
+    return sum;
+}
+
+uint64_t twin_casts(uint8_t mode, uint16_t n1, uint32_t t, uint8_t senders, uint8_t groups, const uint8_t *packets, size_t octets,
+                    const uint16_t *sizes, const uint8_t *to, size_t count, uint32_t *versions, uint32_t *numbers, size_t entries) {
+    const struct tables lent = {versions, numbers, entries, entries};
+    struct receiver r;
+    begin(&r, mode, n1, t, senders, groups);
+    return casts(&r, packets, octets, sizes, to, count, &lent);
 }
 
 /* ---- cutting */

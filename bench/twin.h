@@ -12,6 +12,10 @@
 
 enum { HEADER = 64, AREA = 16384, PLACES = 16, LONGEST = 1460 };
 
+/* the most groups, the entries of each sender and group in either table, the most entries, and the most octets of a
+ * PDU to a group */
+enum { GROUPS = 8, PRIORITIES = 8, MOST_ENTRIES = PLACES * GROUPS * PRIORITIES, LONGEST_GROUP = 1472 };
+
 /* the most octets of a fault section, and the most errors in one */
 enum { SECTION = 1344, MOST_ERRORS = 331 };
 
@@ -39,6 +43,10 @@ typedef uint64_t night_call(uint8_t mode, uint16_t n1, uint32_t t, uint8_t sende
 typedef uint64_t pages_call(uint8_t mode, uint16_t n1, uint32_t t, uint8_t senders, const uint8_t *packets,
                             size_t octets, const uint16_t *sizes, size_t count, uint8_t *storage, size_t room,
                             const uint8_t *places, size_t asked);
+/* a night of packets to groups, the groups 1 to `groups` registered: packet i came to to[i] */
+typedef uint64_t casts_call(uint8_t mode, uint16_t n1, uint32_t t, uint8_t senders, uint8_t groups,
+                            const uint8_t *packets, size_t octets, const uint16_t *sizes, const uint8_t *to,
+                            size_t count, uint32_t *versions, uint32_t *numbers, size_t entries);
 typedef uint64_t cuts_call(uint32_t number, const uint8_t *message, size_t n, uint16_t u, uint8_t last, uint8_t *buffer,
                            size_t room);
 /* sections of one size, one behind the other: each judged; each judged, and every error and the options handed over;
@@ -53,6 +61,7 @@ typedef void head_call(uint32_t number, uint32_t ml, uint16_t bsize, uint8_t cbn
 
 night_call adp_night, board_night, twin_night;
 pages_call adp_pages, board_pages, twin_pages;
+casts_call board_casts, twin_casts;
 cuts_call adp_cuts, board_cuts, twin_cuts;
 head_call adp_head;
 reads_call board_reads, twin_reads;
