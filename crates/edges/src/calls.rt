@@ -6,18 +6,10 @@ use crate::damage::with_sender;
 use crate::damage::with_settings;
 use answers::Answer;
 use answers::Setup;
-use edges_calls::cut_call;
-use edges_calls::field_call;
-use edges_calls::held_call;
-use edges_calls::part_call;
-use edges_calls::question_call;
-use edges_fault::fault_call;
 use edges_lines::calls::call_line;
 use edges_lines::calls::clock_line;
 use edges_lines::calls::message_line;
-use edges_lines::record::state_lines;
 use edges_lines::sum;
-use edges_lines::title;
 use groups::Group;
 use groups::Groups;
 use header::codes::DataField;
@@ -33,23 +25,19 @@ use setup::setup;
 use state::Address;
 use state::Receiver;
 
-// The octets in front of a field's contents: its tag and its length.
-pub(crate) const HEAD: usize = 3;
-
-// The octets in front of the PDU of a message call: the head, and how many octets of storage are lent.
-const PDU: usize = 7;
+// The octets in front of the PDU of a message call: how many octets of storage are lent.
+const PDU: usize = 4;
 
 // Makes the call of a field, and returns the state that it leaves.
-pub(crate) fn call(w: Receiver, storage: &mut [u8], field: &[u8]) -> Receiver {
-    let tag = read1(field, 0);
+pub(crate) fn call(w: Receiver, storage: &mut [u8], tag: u8, contents: &[u8]) -> Receiver {
     match tag {
         b'S' | b's' => {
-            // "Fills the storage before"
+            // "Fills the storage … before"
             fill(storage);
-            setup_call(tag, from(field, HEAD))
+            setup_call(tag, contents)
         }
-        b'P' | b'p' => message_call(w, storage, field),
-        _ => state_call(w, tag, from(field, HEAD)),
+        b'P' | b'p' => message_call(w, storage, tag, contents),
+        _ => state_call(w, tag, contents),
     }
 }
 
@@ -61,21 +49,6 @@ fn state_call(w: Receiver, tag: u8, contents: &[u8]) -> Receiver {
         b't' => with_settings(w, contents),
         b'r' => with_sender(w, contents),
         _ => w,
-    }
-}
-
-// What leaves the state as it is.
-pub(crate) fn look<'a>(w: Receiver, storage: &'a [u8], field: &'a [u8]) {
-    let tag = read1(field, 0);
-    match tag {
-        b'#' => title(from(field, HEAD)),
-        b'Q' => question_call(w),
-        b'H' => held_call(w, from(field, HEAD)),
-        b'W' => state_lines(w),
-        b'K' => cut_call(from(field, HEAD)),
-        b'R' => part_call(storage, from(field, HEAD)),
-        b'F' => field_call(from(field, HEAD)),
-        _ => fault_call(tag, from(field, HEAD)),
     }
 }
 
@@ -146,24 +119,24 @@ pub(crate) fn address(contents: &[u8], at: usize) -> Address {
 
 // ---- the message call
 
-fn message_call(w: Receiver, storage: &mut [u8], field: &[u8]) -> Receiver {
-    let lent = read4(field, HEAD) as usize;
-    lent_call(w, front_mut(storage, lent), field)
+fn message_call(w: Receiver, storage: &mut [u8], tag: u8, contents: &[u8]) -> Receiver {
+    let lent = read4(contents, 0) as usize;
+    lent_call(w, front_mut(storage, lent), tag, from(contents, PDU))
 }
 
-fn lent_call(w: Receiver, storage: &mut [u8], field: &[u8]) -> Receiver {
-    let a = message(w, storage, from(field, PDU));
-    message_lines(a, storage, field);
+fn lent_call(w: Receiver, storage: &mut [u8], tag: u8, packet: &[u8]) -> Receiver {
+    let a = message(w, storage, packet);
+    message_lines(tag, a, storage, packet);
     a.state
 }
 
-fn message_lines<'a>(a: Answer, storage: &'a [u8], field: &'a [u8]) {
+fn message_lines<'a>(tag: u8, a: Answer, storage: &'a [u8], packet: &'a [u8]) {
     let outcome = a.outcome;
     let dropped = a.dropped;
     let lies = a.lies;
-    let delivered = part(lies, from(field, PDU), storage);
+    let delivered = part(lies, packet, storage);
     let counted = [delivered.len() as u64, sum(delivered), sum(storage)];
-    message_line(read1(field, 0), outcome, a.held, dropped, counted);
+    message_line(tag, outcome, a.held, dropped, counted);
 }
 
 // The first k octets of a slice, all of them where it has no more.

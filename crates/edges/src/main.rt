@@ -7,13 +7,19 @@ mod damage;
 ghost use mathlib.Core.Path.{_≡_};
 ghost use Prim.Native.Nat.{_≤_};
 ghost use lib.ListN.{length};
-use calls::HEAD;
 use calls::call;
-use calls::look;
+use edges_calls::look;
+use edges_multicast::ENTRIES;
+use edges_multicast::table_call;
 use io::read_full;
 use libc::STDIN_FILENO;
+use octets::from;
+use octets::read1;
 use octets::read2;
 use state::Receiver;
+
+// The octets in front of a field's contents: its tag and its length.
+const HEAD: usize = 3;
 
 fn main() {
     // "The storage: 262,144 octets (16 × 16,384)."
@@ -27,6 +33,8 @@ fn run(storage: &mut [u8], field: &mut [u8])
     requires { ⌜ length (now field) ≡ 65538 ⌝ }
 {
     let mut w = Receiver::empty();
+    let mut versions = [0u32; ENTRIES];
+    let mut numbers = [0u32; ENTRIES];
     // A proved loop has to end, and nothing says that an input does: no run uses these turns up.
     let mut turns = u64::MAX;
     while turns > 0 {
@@ -34,8 +42,12 @@ fn run(storage: &mut [u8], field: &mut [u8])
         if read == 0 {
             return;
         }
-        look(w, storage, &field[0..read]);
-        w = call(w, storage, &field[0..read]);
+        let next = &field[0..read];
+        let tag = read1(next, 0);
+        let contents = from(next, HEAD);
+        look(w, storage, tag, contents);
+        table_call(w, &mut versions, &mut numbers, tag, contents);
+        w = call(w, storage, tag, contents);
         turns -= 1;
     }
 }

@@ -1,18 +1,21 @@
 // The calls of docs/EDGES.md that leave the state as it is, each with its lines: the question, how many pieces are held,
-// the cutter, the part that is handed over, the next field.
+// the cutter, the part that is handed over, the next field; the state shown; those of `edges_fault`.
 //
-// No contract can say what is written, so these functions have none: they answer nothing, and nothing is lent to them
-// to write.
+// No contract can say what is written, so the public function has none: it answers nothing, and nothing is lent to it to
+// write.
 use answers::Where;
 use capture_fields::Kind;
 use capture_fields::Next;
 use capture_fields::next_field;
 use cut::cutter::cutter;
+use edges_fault::fault_call;
 use edges_lines::calls::question_line;
 use edges_lines::calls::written_line;
 use edges_lines::line;
 use edges_lines::octets_line;
+use edges_lines::record::state_lines;
 use edges_lines::sum;
+use edges_lines::title;
 use header::Given;
 use header::SIZE;
 use header::codes::DataField;
@@ -29,22 +32,36 @@ use ring::Number;
 use ring::Version;
 use state::Receiver;
 
+// The call of a field by its tag, none for any other.
+pub fn look<'a>(w: Receiver, storage: &'a [u8], tag: u8, contents: &'a [u8]) {
+    match tag {
+        b'#' => title(contents),
+        b'Q' => question_call(w),
+        b'H' => held_call(w, contents),
+        b'W' => state_lines(w),
+        b'K' => cut_call(contents),
+        b'R' => part_call(storage, contents),
+        b'F' => field_call(contents),
+        _ => fault_call(tag, contents),
+    }
+}
+
 // ---- the question
 
-pub fn question_call(w: Receiver) {
+fn question_call(w: Receiver) {
     question_line(question(w), w);
 }
 
 // ---- how many pieces are held
 
-pub fn held_call(w: Receiver, contents: &[u8]) {
+fn held_call(w: Receiver, contents: &[u8]) {
     line(b'H', &[w.held(read1(contents, 0)) as u64]);
 }
 
 // ---- the cutter
 
 // The buffer has as many octets as the call says, "each of them 170 before the call".
-pub fn cut_call(contents: &[u8]) {
+fn cut_call(contents: &[u8]) {
     let mut buffer = [170u8; 1_473];
     let room = (read2(contents, 0) % 1_474) as usize;
     cut_into(&mut buffer[0..room], contents);
@@ -84,7 +101,7 @@ fn cutting_lines(number: u8, length: u16, buffer: &[u8]) {
 
 // ---- part
 
-pub fn part_call<'a>(storage: &'a [u8], contents: &'a [u8]) {
+fn part_call<'a>(storage: &'a [u8], contents: &'a [u8]) {
     let lent = read4(contents, 17) as usize;
     let handed = part(
         where_in(contents),
@@ -108,7 +125,7 @@ fn where_in(contents: &[u8]) -> Where {
 
 // ---- the next field
 
-pub fn field_call(octets: &[u8]) {
+fn field_call(octets: &[u8]) {
     let next = next_field(octets);
     match next {
         Next::Nothing => line(b'F', &[0, 0, 0, 7]),

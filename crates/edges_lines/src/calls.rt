@@ -92,3 +92,19 @@ pub fn message_line(tag: u8, outcome: Outcome, held: u8, dropped: Dropped, count
         ],
     );
 }
+
+// What is counted are the part's length and sum, and the sums of the lent entries of the versions and of the numbers.
+pub fn multicast_line(tag: u8, outcome: Outcome, counted: [u64; 4]) {
+    told(
+        tag,
+        &[
+            outcome.number() as u64,
+            outcome.verdict() as u64,
+            counted[0],
+            outcome.skipped() as u64,
+            counted[1],
+            counted[2],
+            counted[3],
+        ],
+    );
+}

@@ -2,15 +2,16 @@
 //
 // No contract can say what is written, so a function that only prints has none: it answers nothing, and nothing is lent
 // to it to write.
-ghost use Prim.Native.Nat.{_%_};
+ghost use Prim.Native.Nat.{_%_, _<_};
 ghost use mathlib.Core.Path.{_≡_};
-ghost use Rattle.edges_lines.specs.Sum.{withOctet, sumOf};
+ghost use Rattle.edges_lines.specs.Sum.{withOctet, sumFrom, sumOf, inOctets};
 
 pub mod calls;
 pub mod record;
 
 use octets::from;
 use octets::read1;
+use octets::write4;
 
 // "the title stands there as on this page"
 pub fn title(octets: &[u8]) {
@@ -75,7 +76,30 @@ fn octet_word(octet: u8) {
 pub fn sum(octets: &[u8]) -> u64
     ensures { λ r. ⌜ r ≡ sumOf (now (octets .entry)) ⌝ }
 {
+    sum_from(7, octets)
+}
+
+// "each entry as four octets, high octet first"
+pub fn sum_of_numbers(numbers: &[u32]) -> u64
+    ensures { λ r. ⌜ r ≡ sumOf (inOctets (now (numbers .entry))) ⌝ }
+{
     let mut s = 7;
+    let mut i = 0;
+    while i < numbers.len() {
+        let mut octets = [0u8; 4];
+        write4(&mut octets, 0, numbers[i]);
+        s = sum_from(s, &octets);
+        i += 1;
+    }
+    s
+}
+
+// The sum that goes on from another.
+fn sum_from(start: u64, octets: &[u8]) -> u64
+    requires { ⌜ start < 4294967296 ⌝ }
+    ensures { λ r. ⌜ r ≡ sumFrom start (now (octets .entry)) ⌝ }
+{
+    let mut s = start;
     let mut i = 0;
     while i < octets.len() {
         s = with_octet(s, octets[i]);

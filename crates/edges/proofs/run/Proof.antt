@@ -1,15 +1,15 @@
 -- Every turn makes one call, and there are turns enough. Assumes nothing.
 use borrow.Author.Needs.{needs}
-use mathlib.Core.Path.{_≡_}
+use mathlib.Core.Path.{_≡_, _∙_}
 use lib.ListN.{length}
 use Rattle.edges.proofs.run.Statement.{statement}
 use Rattle.edges.proofs.run.Tie as tie
 
 abbrev Inv-loop : tie.InvT-loop
-Inv-loop storage₀ field₀ w₀ turns₀ storage field w turns = (length storage ≡ length storage₀) × (length field ≡ 65538) × (length field ≡ length field₀)
+Inv-loop storage₀ field₀ w₀ versions₀ numbers₀ turns₀ storage field w versions numbers turns = (length storage ≡ length storage₀) × (length field ≡ 65538) × (length field ≡ length field₀)
 
 abbrev μ-loop : tie.MeasureT-loop
-μ-loop storage₀ field₀ w₀ turns₀ storage field w turns = turns
+μ-loop storage₀ field₀ w₀ versions₀ numbers₀ turns₀ storage field w versions numbers turns = turns
 
 empty-requires : tie.Need-empty-requires Inv-loop μ-loop
 empty-requires c κs = search needs
@@ -29,26 +29,26 @@ same-length-2 c = search needs
 returns : tie.Need-returns Inv-loop μ-loop
 returns c = search needs
 
-sub-look : tie.Need-sub-look Inv-loop μ-loop
-sub-look c = search needs
+sub-next : tie.Need-sub-next Inv-loop μ-loop
+sub-next c = search needs
 
-part-look-start : tie.Need-part-look-start Inv-loop μ-loop
-part-look-start c = search needs
+part-next-start : tie.Need-part-next-start Inv-loop μ-loop
+part-next-start c = search needs
 
-part-look-end : tie.Need-part-look-end Inv-loop μ-loop
-part-look-end c = search needs
+part-next-end : tie.Need-part-next-end Inv-loop μ-loop
+part-next-end c = search needs
+
+read1-requires : tie.Need-read1-requires Inv-loop μ-loop
+read1-requires c κs = search needs
+
+from-requires : tie.Need-from-requires Inv-loop μ-loop
+from-requires c κs = search needs
 
 look-requires : tie.Need-look-requires Inv-loop μ-loop
 look-requires c κs = search needs
 
-sub-call : tie.Need-sub-call Inv-loop μ-loop
-sub-call c = search needs
-
-part-call-start : tie.Need-part-call-start Inv-loop μ-loop
-part-call-start c = search needs
-
-part-call-end : tie.Need-part-call-end Inv-loop μ-loop
-part-call-end c = search needs
+table-call-requires : tie.Need-table-call-requires Inv-loop μ-loop
+table-call-requires c κs = search needs
 
 call-requires : tie.Need-call-requires Inv-loop μ-loop
 call-requires c κs = search needs
@@ -60,7 +60,12 @@ loop-less : tie.Need-loop-less Inv-loop μ-loop
 loop-less c = search needs
 
 loop-again : tie.Need-loop-again Inv-loop μ-loop
-loop-again c = search needs
+loop-again c =
+    let called = c .before .before in
+    let read = called .before .before .before .before .before .before .before .before .before .before .before .before .before .before in
+    let loop = read .before .before .before .loop in
+    let same = read .read-field .kept .0 in
+    (called .call .kept .1 .0 ∙ loop .inv .0, same ∙ loop .inv .1, same ∙ loop .inv .2)
 
 same-length-3 : tie.Need-same-length-3 Inv-loop μ-loop
 same-length-3 c = search needs
@@ -83,13 +88,13 @@ run-spec =
     same-length
     same-length-2
     returns
-    sub-look
-    part-look-start
-    part-look-end
+    sub-next
+    part-next-start
+    part-next-end
+    read1-requires
+    from-requires
     look-requires
-    sub-call
-    part-call-start
-    part-call-end
+    table-call-requires
     call-requires
     sub-turns
     loop-less

@@ -5,19 +5,18 @@ use mathlib.Core.Path.{_≡_, refl, sym, ap, _∙_}
 use native.Mathlib.Omega.{arith}
 use denote.Ref.{now}
 use lib.ListN.{length, drop}
-use Rattle.edges_lines.specs.Sum.{sumFrom, sumOf}
+use Rattle.edges_lines.specs.Sum.{sumFrom}
 use Rattle.edges_lines.specs.SumLaws.{sum-below, sum-next, sum-end}
-use Rattle.edges_lines.proofs.sum.Statement.{statement}
-use Rattle.edges_lines.proofs.sum.Tie as tie
+use Rattle.edges_lines.proofs.sum_from.Statement.{statement}
+use Rattle.edges_lines.proofs.sum_from.Tie as tie
 
 abbrev Inv-loop : tie.InvT-loop
-Inv-loop octets s₀ i₀ s i = (i ≤ length octets) × (s < 4294967296) × (sumFrom s (drop i octets) ≡ sumOf octets)
+Inv-loop start octets s₀ i₀ s i = (i ≤ length octets) × (s < 4294967296) × (sumFrom s (drop i octets) ≡ sumFrom start octets)
 
 abbrev μ-loop : tie.MeasureT-loop
-μ-loop octets s₀ i₀ s i = length octets - i
+μ-loop start octets s₀ i₀ s i = length octets - i
 
 loop-holds : tie.Need-loop-holds Inv-loop μ-loop
-unfolding sumOf
 loop-holds c = (omega arith, omega arith, refl)
 
 shared-slice-read-with-octet : tie.Need-shared-slice-read-with-octet Inv-loop μ-loop
@@ -42,8 +41,8 @@ loop-again c =
 returns : tie.Need-returns Inv-loop μ-loop
 returns c = sym (sum-end _ (c .before .loop .i) (c .before .loop .s) (c .loop-test .left)) ∙ c .before .loop .inv .2
 
-pub sum-spec : {M : Type 1} → statement M
-sum-spec =
+pub sum-from-spec : {M : Type 1} → statement M
+sum-from-spec =
     tie.close
     (tie.spec
     Inv-loop
