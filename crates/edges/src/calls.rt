@@ -4,12 +4,10 @@
 // less it does.
 use crate::damage::with_sender;
 use crate::damage::with_settings;
-use answers::Answer;
 use answers::Setup;
+use edges_calls::message_lines;
 use edges_lines::calls::call_line;
 use edges_lines::calls::clock_line;
-use edges_lines::calls::message_line;
-use edges_lines::sum;
 use groups::Group;
 use groups::Groups;
 use header::codes::DataField;
@@ -20,7 +18,6 @@ use octets::read2;
 use octets::read4;
 use octets::read8;
 use receiver::message::message;
-use receiver::part::part;
 use setup::setup;
 use state::Address;
 use state::Receiver;
@@ -128,15 +125,6 @@ fn lent_call(w: Receiver, storage: &mut [u8], tag: u8, packet: &[u8]) -> Receive
     let a = message(w, storage, packet);
     message_lines(tag, a, storage, packet);
     a.state
-}
-
-fn message_lines<'a>(tag: u8, a: Answer, storage: &'a [u8], packet: &'a [u8]) {
-    let outcome = a.outcome;
-    let dropped = a.dropped;
-    let lies = a.lies;
-    let delivered = part(lies, packet, storage);
-    let counted = [delivered.len() as u64, sum(delivered), sum(storage)];
-    message_line(tag, outcome, a.held, dropped, counted);
 }
 
 // The first k octets of a slice, all of them where it has no more.

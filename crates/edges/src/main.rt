@@ -24,17 +24,22 @@ const HEAD: usize = 3;
 fn main() {
     // "The storage: 262,144 octets (16 × 16,384)."
     let mut storage = [0u8; 262_144];
+    let mut versions = [0u32; ENTRIES];
+    let mut numbers = [0u32; ENTRIES];
     let mut field = [0u8; 65_538];
-    run(&mut storage, &mut field);
+    run(&mut storage, &mut versions, &mut numbers, &mut field);
 }
 
-// Makes the call of each field.
-fn run(storage: &mut [u8], field: &mut [u8])
+// Takes a turn for each field.
+fn run(
+    storage: &mut [u8],
+    versions: &mut [u32; ENTRIES],
+    numbers: &mut [u32; ENTRIES],
+    field: &mut [u8],
+)
     requires { ⌜ length (now field) ≡ 65538 ⌝ }
 {
     let mut w = Receiver::empty();
-    let mut versions = [0u32; ENTRIES];
-    let mut numbers = [0u32; ENTRIES];
     // A proved loop has to end, and nothing says that an input does: no run uses these turns up.
     let mut turns = u64::MAX;
     while turns > 0 {
@@ -46,7 +51,7 @@ fn run(storage: &mut [u8], field: &mut [u8])
         let tag = read1(next, 0);
         let contents = from(next, HEAD);
         look(w, storage, tag, contents);
-        table_call(w, &mut versions, &mut numbers, tag, contents);
+        table_call(w, versions, numbers, tag, contents);
         w = call(w, storage, tag, contents);
         turns -= 1;
     }

@@ -1,14 +1,17 @@
 // The calls of docs/EDGES.md that leave the state as it is, each with its lines: the question, how many pieces are held,
-// the cutter, the part that is handed over, the next field; the state shown; those of `edges_fault`.
+// the cutter, the part that is handed over, the next field, the state shown, a fault section; and the line of a message
+// call, which hands over a part too.
 //
-// No contract can say what is written, so the public function has none: it answers nothing, and nothing is lent to it to
-// write.
+// No contract can say what is written, so these functions have none: they answer nothing, and nothing is lent to them
+// to write.
+use answers::Answer;
 use answers::Where;
 use capture_fields::Kind;
 use capture_fields::Next;
 use capture_fields::next_field;
 use cut::cutter::cutter;
 use edges_fault::fault_call;
+use edges_lines::calls::message_line;
 use edges_lines::calls::question_line;
 use edges_lines::calls::written_line;
 use edges_lines::line;
@@ -121,6 +124,18 @@ fn where_in(contents: &[u8]) -> Where {
             length: read8(contents, 9) as usize,
         },
     }
+}
+
+// ---- the line of a message call
+
+// Of its answer, and of the storage and the packet that were lent to it.
+pub fn message_lines<'a>(tag: u8, a: Answer, storage: &'a [u8], packet: &'a [u8]) {
+    let outcome = a.outcome;
+    let dropped = a.dropped;
+    let lies = a.lies;
+    let delivered = part(lies, packet, storage);
+    let counted = [delivered.len() as u64, sum(delivered), sum(storage)];
+    message_line(tag, outcome, a.held, dropped, counted);
 }
 
 // ---- the next field

@@ -6,10 +6,10 @@ use Rattle.edges.proofs.run.Statement.{statement}
 use Rattle.edges.proofs.run.Tie as tie
 
 abbrev Inv-loop : tie.InvT-loop
-Inv-loop storage₀ field₀ w₀ versions₀ numbers₀ turns₀ storage field w versions numbers turns = (length storage ≡ length storage₀) × (length field ≡ 65538) × (length field ≡ length field₀)
+Inv-loop storage₀ versions₀ numbers₀ field₀ w₀ turns₀ storage versions numbers field w turns = (length storage ≡ length storage₀) × (length field ≡ 65538) × (length field ≡ length field₀)
 
 abbrev μ-loop : tie.MeasureT-loop
-μ-loop storage₀ field₀ w₀ versions₀ numbers₀ turns₀ storage field w versions numbers turns = turns
+μ-loop storage₀ versions₀ numbers₀ field₀ w₀ turns₀ storage versions numbers field w turns = turns
 
 empty-requires : tie.Need-empty-requires Inv-loop μ-loop
 empty-requires c κs = search needs
