@@ -30,7 +30,7 @@ fn main() {
     run(&mut storage, &mut versions, &mut numbers, &mut field);
 }
 
-// Takes a turn for each field.
+// Makes the call of each field.
 fn run(
     storage: &mut [u8],
     versions: &mut [u32; ENTRIES],

@@ -3,7 +3,6 @@
 //
 // No contract can say what is printed; what a field leaves of the tables is said in `Fields`.
 ghost use mathlib.Core.Path.{_≡_};
-ghost use Prim.Native.Nat.{_%_};
 ghost use lib.ListN.{length};
 ghost use Rattle.multicast.specs.Lent.{tables};
 ghost use Rattle.edges_multicast.specs.Fields.{lentCast, castIn, damagedBy, tablesBy};
@@ -53,6 +52,7 @@ pub fn table_call(
 
 // ---- the multicast call
 
+// As many entries are lent as the field says; those behind them stay.
 fn multicast_call(w: Receiver, versions: &mut [u32], numbers: &mut [u32], tag: u8, contents: &[u8])
     requires { ⌜ (length (now versions) ≡ 1040) × (length (now numbers) ≡ 1040) ⌝ }
     ensures versions { λ _. ⌜ now (versions .exit) ≡ castIn w (tables (now (versions .entry)) (now (numbers .entry))) (now (contents .entry)) .versions ⌝ }

@@ -1,4 +1,4 @@
--- Both arrays are of the lengths that they are made with. By a law, since to count 262,144 octets costs the check
+-- The storage and the field are of the lengths that they are made with. By a law, since to count 262,144 octets costs the check
 -- seconds. Assumes nothing.
 use Prim.Native.Nat.{ℕ}
 use mathlib.Core.Path.{sym}
