@@ -23,7 +23,7 @@ static uint64_t run(uint64_t *state, const uint8_t *packets, size_t octets, cons
     for (size_t i = 0; i < count; i++) {
         size_t size = sizes[i] < octets - at ? sizes[i] : octets - at;
         struct adp_answer a = adp_message(state, ADP_STATE_WORDS, storage, room, packets + at, size);
-        sum += (a.number > ADP_DELIVERED ? a.number : a.verdict) + a.held * 256ull + a.length;
+        sum += (a.number > ADP_DELIVERED ? a.number : a.verdict) + a.age + a.held * 256ull + a.length;
         at += size;
     }
     return sum;
@@ -56,7 +56,7 @@ uint64_t board_casts(uint8_t mode, uint16_t n1, uint32_t t, uint8_t senders, uin
         size_t size = sizes[i] < octets - at ? sizes[i] : octets - at;
         struct adp_answer a =
             adp_multicast(state, ADP_STATE_WORDS, versions, entries, numbers, entries, to[i], packets + at, size);
-        sum += (a.number > ADP_DELIVERED ? a.number : a.verdict) + a.held * 256ull + a.length;
+        sum += (a.number > ADP_DELIVERED ? a.number : a.verdict) + a.age + a.held * 256ull + a.length;
         at += size;
     }
     return sum;

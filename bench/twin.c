@@ -47,7 +47,7 @@ enum verdict { REPEAT = 0, FIRST = 1, NEXT = 2, RESTART = 3, GAP = 4, UNCHECKED 
 /* number: 0 stored, 1 delivered, 9 or more refused; the delivered octets lie at `part` */
 struct answer {
     uint8_t number, verdict, held;
-    uint32_t skipped, dropped_version, dropped_number;
+    uint32_t skipped, age, dropped_version, dropped_number;
     const uint8_t *part;
     size_t length;
 };
@@ -186,15 +186,17 @@ static inline uint32_t back_of(uint32_t last, uint32_t this) {
 }
 
 static inline enum verdict number_check(const struct receiver *r, uint32_t last_version, uint32_t last_number, uint32_t version,
-                                        uint32_t number, uint32_t *skipped) {
-    *skipped = 0;
+                                        uint32_t number, struct answer *a) {
     if (version == 0 && number == 1) return UNCHECKED;
     if (last_version == 0) return FIRST;
     if (version != last_version) return RESTART;
     uint32_t back = back_of(last_number, number);
-    if (back < r->n1) return REPEAT;
+    if (back < r->n1) {
+        a->age = back;
+        return REPEAT;
+    }
     if (back == M - 1) return NEXT;
-    *skipped = M - 1 - back;
+    a->skipped = M - 1 - back;
     return GAP;
 }
 
@@ -213,7 +215,7 @@ static inline uint8_t sender_number(const struct receiver *r, const struct sende
     uint32_t version = read4(packet + V_SEQ), number = read4(packet + SEQ);
     if (read2(packet + MODE) == 1 && !r->test) return 15;
     if (!possible(packet, size, c)) return 16;
-    a->verdict = number_check(r, s->last_version, s->last_number, version, number, &a->skipped);
+    a->verdict = number_check(r, s->last_version, s->last_number, version, number, a);
     if (a->verdict == REPEAT) return 17;
     if (!s->open || m->version != version) return 0;
     if (number != m->number) return back_of(m->number, number) <= HALF ? 18 : 0;
@@ -317,7 +319,7 @@ static inline struct answer multicast(const struct receiver *r, const struct tab
     a.number = cast_number(r, l, group, packet, size, &entry);
     if (a.number != 0) return a;
     uint32_t version = read4(packet + V_SEQ), number = read4(packet + SEQ);
-    a.verdict = number_check(r, l->versions[entry], l->numbers[entry], version, number, &a.skipped);
+    a.verdict = number_check(r, l->versions[entry], l->numbers[entry], version, number, &a);
     if (a.verdict == REPEAT) {
         a.number = 17;
         return a;
@@ -368,7 +370,7 @@ __attribute__((noinline, noclone)) static uint64_t night(uint8_t mode, uint16_t 
     for (size_t i = 0; i < count; i++) {
         size_t size = sizes[i] < octets - at ? sizes[i] : octets - at;
         struct answer a = message(&r, storage, room, packets + at, size);
-        sum += (a.number > 1 ? a.number : a.verdict) + a.held * 256ull + a.length;
+        sum += (a.number > 1 ? a.number : a.verdict) + a.age + a.held * 256ull + a.length;
         at += size;
     }
     *left = r;
@@ -399,7 +401,7 @@ __attribute__((noipa)) static uint64_t casts(const struct receiver *r, const uin
     for (size_t i = 0; i < count; i++) {
         size_t size = sizes[i] < octets - at ? sizes[i] : octets - at;
         struct answer a = multicast(r, lent, to[i], packets + at, size);
-        sum += (a.number > 1 ? a.number : a.verdict) + a.held * 256ull + a.length;
+        sum += (a.number > 1 ? a.number : a.verdict) + a.age + a.held * 256ull + a.length;
         at += size;
     }
     return sum;

@@ -91,14 +91,17 @@ struct adp_settings {
     struct adp_groups groups;
 };
 
-/* In this answer and the three below it, what says nothing is 0: on a refusal all but the number; slice, start and
- * length where nothing is delivered, skipped without a gap, sender and piece where nothing is open. */
+/* In this answer and the three below it, what says nothing is 0: on a refusal all but the number, and the age of a
+ * repeat; slice, start and length where nothing is delivered, skipped without a gap, sender and piece where nothing is
+ * open. */
 struct adp_answer {
     uint8_t number;
     uint8_t verdict;  /* of a delivery */
     uint8_t held;     /* pieces then held for the PDU's sender, 0 after a delivery; a refusal leaves what is held */
     uint8_t slice;    /* of a delivery: where its `length` octets lie, from `start` on */
     uint32_t skipped; /* with ADP_GAP: how many numbers */
+    uint32_t age;     /* with ADP_REPEAT: how far its number lies behind the last delivered one, 0 to n1 - 1. 0 is that
+                       * number again: a stutter, and no sender that jumped back */
     uint32_t dropped_version, dropped_number; /* the message dropped to make room; a number of 0: none was */
     size_t start, length;
 };

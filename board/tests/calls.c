@@ -163,8 +163,8 @@ static void call_message(struct caller *c) {
     need(c, a.number < REFUSAL || same(&c->storage_room, c->storage), "a refusal changes the storage");
     need(c, take_back(&c->storage_room, c->storage), "octets beside the storage change");
     if (!told(c)) return;
-    fprintf(c->out, "P %u %u %u %zu %" PRIu32 " %" PRIu32 " %" PRIu32 " %" PRIu32 " %" PRIu32 "\n", a.number, a.verdict,
-            a.held, a.length, a.skipped, a.dropped_version, a.dropped_number, part_sum, storage_sum);
+    fprintf(c->out, "P %u %u %u %zu %" PRIu32 " %" PRIu32 " %" PRIu32 " %" PRIu32 " %" PRIu32 " %" PRIu32 "\n", a.number,
+            a.verdict, a.held, a.length, a.skipped, a.age, a.dropped_version, a.dropped_number, part_sum, storage_sum);
 }
 
 /* ---- the multicast call */
@@ -214,8 +214,8 @@ static void call_multicast(struct caller *c) {
     uint32_t versions_sum = take_table(c, &c->versions, a.number);
     uint32_t numbers_sum = take_table(c, &c->numbers, a.number);
     if (!told(c)) return;
-    fprintf(c->out, "M %u %u %zu %" PRIu32 " %" PRIu32 " %" PRIu32 " %" PRIu32 "\n", a.number, a.verdict, a.length,
-            a.skipped, part_sum, versions_sum, numbers_sum);
+    fprintf(c->out, "M %u %u %zu %" PRIu32 " %" PRIu32 " %" PRIu32 " %" PRIu32 " %" PRIu32 "\n", a.number, a.verdict,
+            a.length, a.skipped, a.age, part_sum, versions_sum, numbers_sum);
 }
 
 /* ---- alive signals, the clock, the question, how many pieces are held */

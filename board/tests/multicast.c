@@ -73,7 +73,7 @@ static void answer_is(const char *name, struct adp_answer a, unsigned number) {
     need(a.verdict == (delivered ? ADP_RESTART : 0), name, "another verdict");
     need(a.slice == (delivered ? ADP_IN_PACKET : ADP_IN_NOTHING), name, "the message lies elsewhere");
     need(a.start == (delivered ? ADP_HEADER : 0) && a.length == (delivered ? LENGTH : 0), name, "another part");
-    need(a.held == 0 && a.skipped == 0, name, "pieces are held, or numbers skipped");
+    need(a.held == 0 && a.skipped == 0 && a.age == 0, name, "pieces are held, numbers skipped, or a repeat is told");
     need(a.dropped_version == 0 && a.dropped_number == 0, name, "a message is dropped");
 }
 

@@ -151,7 +151,9 @@ static void take_message(struct raft *r, const uint8_t *packet, size_t size) {
     say_packet(packet);
     if (answer.number > ADP_DELIVERED) {
         /* Its `held` of 0 says nothing: a refusal leaves what is held. */
-        printf("refused with %d\n", answer.number);
+        printf("refused with %d", answer.number);
+        if (answer.number == ADP_REPEAT) printf(", %" PRIu32 " back", answer.age);
+        printf("\n");
         r->page.refused[answer.number]++;
         return;
     }

@@ -4,6 +4,8 @@
 pub const STORED: u8 = 0;
 /// "1 delivered".
 pub const DELIVERED: u8 = 1;
+/// "17 | number check says repeat". By 02 its age comes with it.
+pub const REPEAT: u8 = 17;
 
 /// One row of the table: its number, and whether it is "given" here.
 pub type Row = (u8, bool);

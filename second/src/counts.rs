@@ -2,6 +2,8 @@
 
 use std::collections::BTreeMap;
 
+use crate::ages::ages;
+use crate::pairs::pairs;
 use crate::rounds::came_round;
 
 /// How often each kind of line occurred with each number.
@@ -18,12 +20,16 @@ pub fn counts(lines: &str) -> Result<String, String> {
     Ok(written(&counted(lines)?))
 }
 
-/// The same with the fields that the lines are of, and with one kind more: N for
-/// numbers that came round, under the answer of the message call.
+/// The same with the fields that the lines are of, and with three kinds more: N for
+/// numbers that came round, under the answer of the message call, D and MD for
+/// repeats of a message call and of a multicast call, under 0 for the same number, 2
+/// for N1 - 1 back, 1 for between.
 pub fn counts_of_calls(fields: &[u8], lines: &str) -> Result<String, String> {
     let mut counts = counted(lines)?;
-    for answer in came_round(fields, lines)? {
-        *counts.entry(("N", answer)).or_default() += 1;
+    let pairs = pairs(fields, lines)?;
+    let round = came_round(&pairs).into_iter().map(|answer| ("N", answer));
+    for kind in round.chain(ages(&pairs)) {
+        *counts.entry(kind).or_default() += 1;
     }
     Ok(written(&counts))
 }
@@ -47,7 +53,7 @@ fn written(counts: &Counts) -> String {
 }
 
 /// What one line counts for; None where it is not one of the program's lines. A P
-/// line has 4 numbers in a run, 9 among the edges; an E line none in a run, where
+/// line has 4 numbers in a run, 10 among the edges; an E line none in a run, where
 /// it ends it, and one among the edges, where it tells how many entries are in use.
 fn kinds_of(line: &str) -> Option<Vec<(&'static str, u64)>> {
     if line.starts_with("# ") {
@@ -58,13 +64,13 @@ fn kinds_of(line: &str) -> Option<Vec<(&'static str, u64)>> {
     let numbers: Vec<u64> = words.map(|word| word.parse().ok()).collect::<Option<_>>()?;
     match (kind, &numbers[..]) {
         ("S", [answer]) => Some(vec![("S", *answer)]),
-        ("P", [answer, verdict, _, _] | [answer, verdict, _, _, _, _, _, _, _]) => {
+        ("P", [answer, verdict, _, _] | [answer, verdict, _, _, _, _, _, _, _, _]) => {
             Some(vec![("P", *answer), ("V", *verdict)])
         }
         ("C", [answer, _, _]) => Some(vec![("C", *answer)]),
         ("A", [answer]) => Some(vec![("A", *answer)]),
         ("Q", [answer, _, _, _, _]) => Some(vec![("Q", *answer)]),
-        ("M", [answer, verdict, _, _, _, _, _]) => Some(vec![("M", *answer), ("MV", *verdict)]),
+        ("M", [answer, verdict, _, _, _, _, _, _]) => Some(vec![("M", *answer), ("MV", *verdict)]),
         ("E", [_]) | ("e", [_, _, _]) => Some(Vec::new()),
         ("W", state) if state.len() == 14 => Some(Vec::new()),
         ("w", sender) if sender.len() == 18 => Some(Vec::new()),
@@ -89,15 +95,16 @@ mod tests {
 
     #[test]
     fn counts_answers_and_verdicts() {
-        let lines = "S 0\nP 0 0 1 0\nP 17 0 0 0\nP 1 1 0 4500\nC 0 3 0\nA 22\nA 0\nP 1 1 0 7\nE\n";
+        let lines = "S 0\nP 0 0 1 0\nP 17 0 0 9\nP 1 1 0 4500\nC 0 3 0\nA 22\nA 0\nP 1 1 0 7\nE\n";
         let expected = "A 0 1\nA 22 1\nC 0 1\nE 0 1\nP 0 1\nP 1 2\nP 17 1\nS 0 1\nV 0 2\nV 1 2\n";
         assert_eq!(counts(lines).unwrap(), expected);
     }
 
     #[test]
     fn counts_the_lines_of_the_edges() {
-        let lines = "# 1.1 A title: P 1\nP 1 4 0 10 2 0 0 7 9\nP 9 0 0 0 0 0 0 7 7\nQ 9 0 0 0 0\n\
-                     Q 0 1 0 2 2\nW 0 16 15000 0 1 2 5 1 0 0 0 0 0 0\nw 0 1 7 0 0 0 0 0 0 0 0 0 0 0 0 0 0 0\n";
+        let lines = "# 1.1 A title: P 1\nP 1 4 0 10 2 0 0 0 7 9\nP 9 0 0 0 0 0 0 0 7 7\n\
+                     Q 9 0 0 0 0\nQ 0 1 0 2 2\nW 0 16 15000 0 1 2 5 1 0 0 0 0 0 0\n\
+                     w 0 1 7 0 0 0 0 0 0 0 0 0 0 0 0 0 0 0\n";
         let expected = "P 1 1\nP 9 1\nQ 0 1\nQ 9 1\nV 0 1\nV 4 1\n";
         assert_eq!(counts(lines).unwrap(), expected);
         let held = "H 0\nH 63\nH 255\n";
@@ -107,7 +114,8 @@ mod tests {
 
     #[test]
     fn counts_multicast_calls_and_passes_over_tables() {
-        let lines = "M 1 4 10 2 9 9 9\nM 26 0 0 0 7 7 7\nM 1 1 0 0 7 9 9\nE 0\nE 1\ne 8 5 100\n";
+        let lines = "M 1 4 10 2 0 9 9 9\nM 26 0 0 0 0 7 7 7\nM 1 1 0 0 0 7 9 9\nE 0\nE 1\n\
+                     e 8 5 100\n";
         let expected = "M 1 2\nM 26 1\nMV 0 1\nMV 1 1\nMV 4 1\n";
         assert_eq!(counts(lines).unwrap(), expected);
         // Behind M and MV, in the order of the kinds.
@@ -148,13 +156,32 @@ mod tests {
     }
 
     #[test]
+    fn counts_repeats_by_their_age() {
+        let pdu = |seq: u32| format!("pdu field=1 node=7 version=5 seq={seq} n=10\n");
+        let setup = "setup online n1=16 senders=1:7\n";
+        let text = [setup, &pdu(100), &pdu(100), &pdu(99), &pdu(85), &pdu(100)].concat();
+        let capture = crate::text::capture_of(&text).unwrap();
+        let lines = "S 0\nP 1 1 0 10\nP 17 0 0 0\nP 17 0 0 1\nP 17 0 0 15\nP 17 0 0 0\n";
+        let expected = "D 0 2\nD 1 1\nD 2 1\nP 1 1\nP 17 4\nS 0 1\nV 0 4\nV 1 1\n";
+        assert_eq!(counts_of_calls(&capture, lines).unwrap(), expected);
+        assert_eq!(counts(lines).unwrap(), expected[18..]);
+    }
+
+    #[test]
     fn tells_the_number_of_a_wrong_line() {
         let runs = ["P 1 1 0", "Q 1", "S", "S x", "", "C 0 0 0 0", "E x", "S  0"];
-        let edges = ["P 1 1 0 0 0 0 0 7", "#", "W 0 16 15000 0", "w 0 1 7", "W"];
+        let edges = [
+            "P 1 1 0 0 0 0 0 7 7",
+            "P 1 1 0 0 0 0 0 0 7 7 7",
+            "#",
+            "W 0 16 15000 0",
+            "w 0 1 7",
+            "W",
+        ];
         let multicast = [
-            "M 1 1 0 0 7 7",
-            "M 1 1 0 0 7 7 7 7",
-            "m 1 1 0 0 7 7 7",
+            "M 1 1 0 0 7 7 7",
+            "M 1 1 0 0 0 7 7 7 7",
+            "m 1 1 0 0 0 7 7 7",
             "M",
             "MV 1",
             "E 1 2",

@@ -2,6 +2,7 @@
 //! the line that an answer gives; and writing fields.
 
 use crate::alive::alive;
+use crate::answers::REPEAT;
 use crate::clock::clock;
 use crate::octets;
 use crate::receiver::{message, part};
@@ -136,12 +137,17 @@ impl Run {
     }
 
     /// "P answer verdict held length (held: pieces then held for the PDU's
-    /// sender, 0 on a refusal; length of a delivery, otherwise 0)".
+    /// sender, 0 on a refusal; length of a delivery, otherwise 0)". 02 of a repeat's
+    /// age: "the program prints it as the P line's length."
     fn message_line(&mut self, packet: &[u8]) -> String {
         let answer = message(&mut self.receiver, &mut self.storage, packet);
         let delivered = part(answer.message, packet, &self.storage);
+        let length = match answer.number {
+            REPEAT => answer.age as usize,
+            _ => delivered.len(),
+        };
         let (number, verdict) = (answer.number, answer.verdict.number());
-        format!("P {number} {verdict} {} {}", answer.held, delivered.len())
+        format!("P {number} {verdict} {} {length}", answer.held)
     }
 
     /// "C answer, dropped map, dead map (both 0 on a refusal)".

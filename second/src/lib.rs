@@ -5,6 +5,7 @@
 //! "02" the paper `02-change-requests.md`, "001" the English ADP R3.0; words
 //! between quotation marks are theirs.
 
+mod ages;
 pub mod alive;
 pub mod answers;
 pub mod clock;
@@ -18,6 +19,7 @@ pub mod header;
 pub mod multicast;
 pub mod numbers;
 pub mod octets;
+mod pairs;
 pub mod random;
 pub mod receiver;
 mod rounds;

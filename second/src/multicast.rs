@@ -1,9 +1,9 @@
 //! The multicast call (class Base-1, D.3.1): a message of one piece for a group
 //! that this node has joined, judged by the number check of D.3.1.3.
 
-use crate::answers::{first_that_applies, DELIVERED};
+use crate::answers::{first_that_applies, DELIVERED, REPEAT};
 use crate::header::{self, read_head, Head};
-use crate::numbers::{number_check, verdict, Check, Verdict, M};
+use crate::numbers::{age, number_check, verdict, Check, Verdict, M};
 use crate::receiver::{head_out_of_range, Where};
 use crate::state::{within_limits, Receiver};
 
@@ -29,6 +29,8 @@ pub struct MulticastAnswer {
     pub verdict: Verdict,
     /// The numbers skipped before a gap's delivery, otherwise 0.
     pub skipped: u32,
+    /// How far back a repeat lies, with 17, otherwise 0.
+    pub age: u32,
     /// Nowhere, or in the packet: no storage is lent to this call.
     pub message: Where,
 }
@@ -59,6 +61,7 @@ pub fn multicast(receiver: &Receiver, tables: Tables, group: u8, packet: &[u8]) 
             number,
             verdict: Verdict::Nothing,
             skipped: 0,
+            age: age_with(number, &arrival),
             message: Where::Nothing,
         };
     }
@@ -126,7 +129,7 @@ fn refusal(receiver: &Receiver, tables: &Tables, arrival: &Arrival) -> Option<u8
         // "unless CBN = TBN = 1 and p = n"
         (16, !of_one_piece(head)),
         // "number check says repeat"
-        (17, repeat(arrival)),
+        (REPEAT, repeat(arrival)),
     ])
 }
 
@@ -160,7 +163,15 @@ fn of_one_piece(head: &Head) -> bool {
 
 /// "17 | number check says repeat".
 fn repeat(arrival: &Arrival) -> bool {
-    matches!(arrival.judged, Some((_, Check::Repeat)))
+    matches!(arrival.judged, Some((_, Check::Repeat { .. })))
+}
+
+/// 02: "The receiver passes it on with refusal 17, multicast too".
+fn age_with(number: u8, arrival: &Arrival) -> u32 {
+    match (number, arrival.judged) {
+        (REPEAT, Some((_, check))) => age(check),
+        _ => 0,
+    }
 }
 
 /// 01: "In cases 2 to 4, delivery stores V_SEQ and SEQ", here in one entry.
@@ -176,6 +187,7 @@ fn deliver(tables: Tables, at: usize, head: &Head, check: Check) -> MulticastAns
         number: DELIVERED,
         verdict,
         skipped,
+        age: 0,
         message: Where::Packet,
     }
 }

@@ -1,6 +1,6 @@
 //! Versions and sequence numbers: the ring 1 to M, which of two numbers is newer,
-//! the number check with its four rules, the verdict and the skipped count
-//! (D.3.1.3, Table 14).
+//! the number check with its four rules, the verdict, the skipped count and the
+//! age of a repeat (D.3.1.3, Table 14).
 
 /// 01: "SEQ is 1 to M, where M = 2,147,483,647."
 pub const M: u32 = 2_147_483_647;
@@ -30,7 +30,7 @@ pub enum Check {
     Unchecked,
     First,
     Restart,
-    Repeat,
+    Repeat { age: u32 },
     Next,
     Gap { skipped: u32 },
 }
@@ -42,6 +42,9 @@ pub enum Check {
 /// 3. V_SEQ differs from RV: restart.
 /// 4. Let d be the remainder of R - SEQ by M, 0 to M - 1. d < N1: repeat.
 ///    d = M - 1: next. Otherwise gap".
+///
+/// 02: "When the number check says repeat, it should also give how far back the
+/// number lies, 0 to N1 - 1": that is d.
 pub fn number_check(rv: u32, r: u32, version: u32, seq: u32, n1: u16) -> Check {
     if version == 0 && seq == 1 {
         return Check::Unchecked;
@@ -54,7 +57,7 @@ pub fn number_check(rv: u32, r: u32, version: u32, seq: u32, n1: u16) -> Check {
     }
     let d = remainder_by_m(i64::from(r) - i64::from(seq));
     if d < u32::from(n1) {
-        Check::Repeat
+        Check::Repeat { age: d }
     } else if d == M - 1 {
         Check::Next
     } else {
@@ -108,7 +111,16 @@ pub fn verdict(check: Check) -> (Verdict, u32) {
         Check::Restart => (Verdict::Restart, 0),
         Check::Next => (Verdict::Next, 0),
         Check::Gap { skipped } => (Verdict::Gap, skipped),
-        Check::Repeat => (Verdict::Nothing, 0),
+        Check::Repeat { .. } => (Verdict::Nothing, 0),
+    }
+}
+
+/// How far back a repeat lies. Whatever else the check says has no age, and 0
+/// stands for it.
+pub fn age(check: Check) -> u32 {
+    match check {
+        Check::Repeat { age } => age,
+        _ => 0,
     }
 }
 
@@ -124,8 +136,8 @@ mod tests {
     #[test]
     fn edges_with_n1_16_and_r_100() {
         assert_eq!(rule_4(100, 101, 16), Check::Next);
-        assert_eq!(rule_4(100, 100, 16), Check::Repeat);
-        assert_eq!(rule_4(100, 85, 16), Check::Repeat);
+        assert_eq!(rule_4(100, 100, 16), Check::Repeat { age: 0 });
+        assert_eq!(rule_4(100, 85, 16), Check::Repeat { age: 15 });
         let far = 2_147_483_630;
         assert_eq!(rule_4(100, 84, 16), Check::Gap { skipped: far });
         assert_eq!(rule_4(100, 103, 16), Check::Gap { skipped: 2 });
@@ -136,10 +148,10 @@ mod tests {
     fn edges_at_the_ring_ends() {
         assert_eq!(rule_4(M, 1, 16), Check::Next);
         assert_eq!(rule_4(M, 2, 16), Check::Gap { skipped: 1 });
-        assert_eq!(rule_4(M, M, 16), Check::Repeat);
-        assert_eq!(rule_4(1, M, 16), Check::Repeat);
+        assert_eq!(rule_4(M, M, 16), Check::Repeat { age: 0 });
+        assert_eq!(rule_4(1, M, 16), Check::Repeat { age: 1 });
         assert_eq!(rule_4(M - 1, M, 16), Check::Next);
-        assert_eq!(rule_4(3, 2_147_483_635, 16), Check::Repeat);
+        assert_eq!(rule_4(3, 2_147_483_635, 16), Check::Repeat { age: 15 });
         // Skipped between 3 and 2147483634: 4 to 2147483633.
         let far = 2_147_483_630;
         assert_eq!(rule_4(3, 2_147_483_634, 16), Check::Gap { skipped: far });
@@ -147,9 +159,9 @@ mod tests {
 
     #[test]
     fn n1_at_its_own_ends() {
-        assert_eq!(rule_4(100, 100, 1), Check::Repeat);
+        assert_eq!(rule_4(100, 100, 1), Check::Repeat { age: 0 });
         assert_eq!(rule_4(100, 99, 1), Check::Gap { skipped: M - 2 });
-        assert_eq!(rule_4(2000, 977, 1024), Check::Repeat);
+        assert_eq!(rule_4(2000, 977, 1024), Check::Repeat { age: 1023 });
         assert_eq!(rule_4(2000, 976, 1024), Check::Gap { skipped: M - 1025 });
     }
 
@@ -179,7 +191,7 @@ mod tests {
                 for seq in near.filter(|seq| (1..=top).contains(seq)) {
                     let said = match rule_4(r, seq as u32, n1) {
                         Check::Next => "next",
-                        Check::Repeat => "repeat",
+                        Check::Repeat { .. } => "repeat",
                         Check::Gap { .. } => "gap",
                         other => panic!("rule 4 said {other:?}"),
                     };
@@ -287,8 +299,99 @@ mod tests {
             assert_eq!(verdict(check).0.number(), number);
         }
         assert_eq!(verdict(Check::Unchecked).0.number(), 5);
-        assert_eq!(verdict(Check::Repeat).0.number(), 0);
+        let repeat = Check::Repeat { age: 7 };
+        assert_eq!(verdict(repeat).0.number(), 0);
         assert_eq!(verdict(gap).1, 2);
-        assert_eq!(verdict(Check::Next).1, 0);
+        assert_eq!((verdict(Check::Next).1, verdict(repeat).1), (0, 0));
+    }
+
+    /// R, SEQ and N1 of repeats, and how far back SEQ lies, counted by hand; past 1
+    /// the steps go on from M, 2,147,483,647.
+    const AGES: [(u32, u32, u16, u32); 24] = [
+        // The same number, one back, between, N1 - 1.
+        (100, 100, 16, 0),
+        (100, 99, 16, 1),
+        (100, 92, 16, 8),
+        (100, 86, 16, 14),
+        (100, 85, 16, 15),
+        // 3, 2, 1, M, M - 1, ..., M - 12.
+        (3, 3, 16, 0),
+        (3, 1, 16, 2),
+        (3, 2_147_483_647, 16, 3),
+        (3, 2_147_483_646, 16, 4),
+        (3, 2_147_483_635, 16, 15),
+        (1, 2_147_483_647, 16, 1),
+        (1, 2_147_483_633, 16, 15),
+        (2_147_483_647, 2_147_483_647, 16, 0),
+        (2_147_483_647, 2_147_483_632, 16, 15),
+        // N1 1 and 2.
+        (100, 100, 1, 0),
+        (1, 1, 1, 0),
+        (2_147_483_647, 2_147_483_647, 1, 0),
+        (1, 2_147_483_647, 2, 1),
+        // N1 1024: ages of one octet and of two.
+        (2_000, 1_999, 1_024, 1),
+        (2_000, 1_745, 1_024, 255),
+        (2_000, 1_744, 1_024, 256),
+        (2_000, 977, 1_024, 1_023),
+        (976, 2_147_483_600, 1_024, 1_023),
+        (1, 2_147_482_625, 1_024, 1_023),
+    ];
+
+    #[test]
+    fn a_repeat_tells_how_far_back_it_lies() {
+        for (r, seq, n1, age) in AGES {
+            let repeat = Check::Repeat { age };
+            assert_eq!(rule_4(r, seq, n1), repeat, "R {r}, SEQ {seq}, N1 {n1}");
+        }
+    }
+
+    /// The number N1 back is no repeat and has no age; nor has anything else.
+    #[test]
+    fn nothing_else_has_an_age() {
+        let n1_back = [
+            (100, 84, 16),
+            (3, 2_147_483_634, 16),
+            (1, 2_147_483_632, 16),
+            (2_147_483_647, 2_147_483_631, 16),
+            (100, 99, 1),
+            (1, 2_147_483_647, 1),
+            (1, 2_147_483_646, 2),
+            (2_000, 976, 1_024),
+            (976, 2_147_483_599, 1_024),
+        ];
+        for (r, seq, n1) in n1_back {
+            let check = rule_4(r, seq, n1);
+            assert!(matches!(check, Check::Gap { .. }), "{r} {seq} {n1}");
+            assert_eq!(age(check), 0);
+        }
+        // Unchecked, first, restart, next, where rule 4 would find 0, 5 and 15 back.
+        assert_eq!(age(number_check(0, 1, 0, 1, 16)), 0);
+        assert_eq!(age(number_check(5, 6, 0, 1, 16)), 0);
+        assert_eq!(age(number_check(0, 100, 5, 95, 16)), 0);
+        assert_eq!(age(number_check(0, 100, 0, 85, 16)), 0);
+        assert_eq!(age(number_check(5, 100, 6, 95, 16)), 0);
+        assert_eq!(age(number_check(5, 100, 5, 101, 16)), 0);
+        assert_eq!(age(number_check(5, 100, 5, 95, 16)), 5);
+    }
+
+    /// Step by step back from R, over the end of the ring: the numbers of ages 0 to
+    /// N1 - 1, and no others, are repeats.
+    #[test]
+    fn each_step_back_is_one_more() {
+        for n1 in [1, 2, 16, 1_024] {
+            for r in [1, 2, 15, 16, 17, 1_023, 1_024, 5_000, M - 1, M] {
+                let mut seq = r;
+                for steps in 0..u32::from(n1) + 3 {
+                    let expected = (steps < n1.into()).then_some(steps);
+                    let said = match rule_4(r, seq, n1) {
+                        Check::Repeat { age } => Some(age),
+                        _ => None,
+                    };
+                    assert_eq!(said, expected, "R {r}, SEQ {seq}, N1 {n1}");
+                    seq = if seq == 1 { M } else { seq - 1 };
+                }
+            }
+        }
     }
 }

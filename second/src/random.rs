@@ -158,11 +158,12 @@ mod tests {
     use std::collections::BTreeSet;
 
     /// Every answer of each kind of line, every verdict, that the program can give
-    /// (9, 11 and 23 can't be reached through it), and numbers that came round.
-    const REACHED: [&str; 31] = [
+    /// (9, 11 and 23 can't be reached through it), numbers that came round, and
+    /// repeats of every age.
+    const REACHED: [&str; 34] = [
         "S 0", "S 10", "P 0", "P 1", "P 12", "P 13", "P 14", "P 15", "P 16", "P 17", "P 18",
         "P 19", "P 20", "C 0", "C 21", "A 0", "A 12", "A 13", "A 14", "A 22", "A 24", "V 0", "V 1",
-        "V 2", "V 3", "V 4", "V 5", "N 0", "N 1", "N 18", "C drop",
+        "V 2", "V 3", "V 4", "V 5", "N 0", "N 1", "N 18", "D 0", "D 1", "D 2", "C drop",
     ];
 
     fn reached_by(capture: &[u8], lines: &str) -> BTreeSet<String> {

@@ -1,10 +1,10 @@
 //! The message call (joining, D.4.4), the part that is handed over, and the
 //! question.
 
-use crate::answers::{first_that_applies, DELIVERED, STORED};
+use crate::answers::{first_that_applies, DELIVERED, REPEAT, STORED};
 use crate::cut::{possible_cut, Cut};
 use crate::header::{self, read_head, Code, Head, HEADER};
-use crate::numbers::{newer, number_check, seq_right, verdict, Check, Verdict};
+use crate::numbers::{age, newer, number_check, seq_right, verdict, Check, Verdict};
 use crate::state::{bit, full_map, within_limits, OpenMessage, Receiver, Sender, AREA};
 
 /// Where a delivered message lies: 01, "handed over as a part of the packet or
@@ -23,6 +23,8 @@ pub struct MessageAnswer {
     pub verdict: Verdict,
     /// The numbers skipped before a gap's delivery, otherwise 0.
     pub skipped: u32,
+    /// 02: "how far back the number lies, 0 to N1 - 1", with 17, otherwise 0.
+    pub age: u32,
     /// "pieces then held for the PDU's sender, 0 on a refusal".
     pub held: u32,
     /// "its version and number stand in the answer (both 0 if none)".
@@ -38,6 +40,7 @@ impl MessageAnswer {
             number,
             verdict: Verdict::Nothing,
             skipped: 0,
+            age: 0,
             held: 0,
             dropped_version: 0,
             dropped_number: 0,
@@ -65,7 +68,7 @@ pub fn message(receiver: &mut Receiver, storage: &mut [u8], packet: &[u8]) -> Me
         head,
     };
     if let Some(number) = refusal(receiver, storage.len(), &arrival) {
-        return MessageAnswer::bare(number);
+        return refused(receiver, &arrival, number);
     }
     match (arrival.sender, arrival.cut) {
         (Some(at), Some(_)) if arrival.head.tbn == 1 => admit_whole(receiver, at, &arrival.head),
@@ -74,6 +77,19 @@ pub fn message(receiver: &mut Receiver, storage: &mut [u8], packet: &[u8]) -> Me
             admit_piece(receiver, storage, at, &arrival.head, cut, octets)
         }
         _ => unreachable!("rows 14 and 16 refuse these"),
+    }
+}
+
+/// A refusal gives "nothing more", but for a repeat's age; 02: "The receiver passes
+/// it on with refusal 17".
+fn refused(receiver: &Receiver, arrival: &Arrival, number: u8) -> MessageAnswer {
+    let age = match (number, arrival.sender) {
+        (REPEAT, Some(at)) => age(check(&receiver.senders[at], &arrival.head, receiver.n1)),
+        _ => 0,
+    };
+    MessageAnswer {
+        age,
+        ..MessageAnswer::bare(number)
     }
 }
 
@@ -98,7 +114,7 @@ fn refusal(receiver: &Receiver, storage: usize, arrival: &Arrival) -> Option<u8>
         // "cut not possible"
         (16, arrival.cut.is_none()),
         // "number check says repeat"
-        (17, of_sender(&|s| repeat(s, head, receiver.n1))),
+        (REPEAT, of_sender(&|s| repeat(s, head, receiver.n1))),
         // "open message has the same version and a", by 02, newer "number"
         (18, of_sender(&|s| older_than_open(s, head))),
         // "same version and number, but TCD, n, TBN or u differ"
@@ -138,7 +154,7 @@ fn check(sender: &Sender, head: &Head, n1: u16) -> Check {
 
 /// "17 | number check says repeat".
 fn repeat(sender: &Sender, head: &Head, n1: u16) -> bool {
-    check(sender, head, n1) == Check::Repeat
+    matches!(check(sender, head, n1), Check::Repeat { .. })
 }
 
 /// "18 | open message has the same version and a larger number", where 02 corrects

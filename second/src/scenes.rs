@@ -241,6 +241,12 @@ pub fn settle(stage: &mut dyn Stage, at: usize) {
     }
 }
 
+/// How far back a repeat may lie: 02, "0 to N1 - 1", each as likely.
+pub fn any_age(stage: &mut dyn Stage) -> u64 {
+    let n1 = u64::from(stage.receiver().n1);
+    stage.dice().below(n1.max(1))
+}
+
 /// A plan under a settled sender's last version, `steps` after its last number.
 pub fn following(stage: &mut dyn Stage, at: usize, steps: u64) -> Plan {
     let sender = sender_at(stage, at);
@@ -417,7 +423,8 @@ fn restart(stage: &mut dyn Stage) {
     send_all(stage, &anew);
 }
 
-/// V_SEQ 0 with SEQ 1, again and again.
+/// V_SEQ 0 with SEQ 1, again and again. "Delivery leaves RV and R", from which a
+/// repeat is counted and the next number too.
 fn unchecked(stage: &mut dyn Stage) {
     let at = any_sender(stage);
     for _ in 0..stage.dice().between(1, 3) {
@@ -425,8 +432,11 @@ fn unchecked(stage: &mut dyn Stage) {
         let free = of_any_size(stage, free);
         send_all(stage, &free);
     }
-    let next = following(stage, at, 1);
-    send(stage, &next, 1);
+    let age = any_age(stage);
+    for steps in [u64::from(M) - age, 1] {
+        let checked = following(stage, at, steps);
+        send(stage, &checked, 1);
+    }
 }
 
 /// V_SEQ 0 with SEQ not 1: the last version becomes 0, the next one is first.
@@ -441,15 +451,17 @@ fn version_nought(stage: &mut dyn Stage) {
     send(stage, &first, 1);
 }
 
-/// The repeats' window, on both sides of both its ends.
+/// The repeats' window, on both sides of both its ends and within.
 fn window_edges(stage: &mut dyn Stage) {
     let at = settled(stage);
     let n1 = u64::from(stage.receiver().n1);
     for _ in 0..4 {
+        let age = any_age(stage);
         let sender = sender_at(stage, at);
         let (version, last) = (sender.last_version, sender.last_number.max(1));
         let edges = [
             last,
+            before(last, age),
             before(last, n1 - 1),
             before(last, n1),
             before(last, n1 + 1),
@@ -514,9 +526,12 @@ fn other_version_drops(stage: &mut dyn Stage) {
     send_all(stage, &opened);
 }
 
+/// Numbers between the last delivered one and the open one; behind them repeats, of
+/// age 0, any, N1 - 1, and what is no repeat any more.
 fn older_refused(stage: &mut dyn Stage) {
     let (_, opened, pieces) = open_one(stage, 10);
-    for back in [1, 5, 9, 10] {
+    let (n1, age) = (u64::from(stage.receiver().n1), any_age(stage));
+    for back in [1, 5, 9, 10, 10 + age, 9 + n1, 10 + n1] {
         let mut older = opened.clone();
         older.values.seq = before(older.values.seq, back);
         let older = of_any_size(stage, older);
@@ -824,7 +839,7 @@ pub fn resize(pdu: &mut Vec<u8>, length: usize) {
 // ---- damaged and strange PDUs ----
 
 /// A PDU that would be stored or delivered.
-pub fn good_pdu(stage: &mut dyn Stage) -> Vec<u8> {
+fn good_pdu(stage: &mut dyn Stage) -> Vec<u8> {
     let at = settled(stage);
     let next = following(stage, at, 1);
     let next = of_any_size(stage, next);
@@ -832,9 +847,27 @@ pub fn good_pdu(stage: &mut dyn Stage) -> Vec<u8> {
     next.pdu(piece as usize)
 }
 
+/// A PDU that would be refused with 17, of any age.
+fn repeated_pdu(stage: &mut dyn Stage) -> Vec<u8> {
+    let at = settled(stage);
+    let age = any_age(stage);
+    let old = following(stage, at, u64::from(M) - age);
+    let old = of_any_size(stage, old);
+    let piece = stage.dice().between(1, old.pieces() as u64);
+    old.pdu(piece as usize)
+}
+
+/// A good PDU, or now and then a repeat, so that other numbers come before 17.
+pub fn good_or_repeated(stage: &mut dyn Stage) -> Vec<u8> {
+    match stage.dice().one_in(3) {
+        true => repeated_pdu(stage),
+        false => good_pdu(stage),
+    }
+}
+
 fn damaged_pdu(stage: &mut dyn Stage) {
     for _ in 0..6 {
-        let mut pdu = good_pdu(stage);
+        let mut pdu = good_or_repeated(stage);
         for _ in 0..stage.dice().one_of(&[1, 1, 2]) {
             damage_header(stage.dice(), &mut pdu);
         }
@@ -872,10 +905,12 @@ pub fn damage_header(dice: &mut Dice, pdu: &mut [u8]) {
     }
 }
 
-/// Test messages: refused by an online node, taken by a test node.
+/// Test messages: refused by an online node, taken by a test node, but for repeats.
 fn test_message(stage: &mut dyn Stage) {
     let at = settled(stage);
-    let mut next = following(stage, at, 1);
+    let back = u64::from(M) - any_age(stage);
+    let steps = stage.dice().one_of(&[1, 1, back]);
+    let mut next = following(stage, at, steps);
     next.values.mode = header::TEST;
     let next = of_any_size(stage, next);
     send_all(stage, &next);
@@ -920,7 +955,7 @@ fn length_edges(stage: &mut dyn Stage) {
 /// Cuts on both sides of what is possible.
 fn impossible_cut(stage: &mut dyn Stage) {
     for _ in 0..4 {
-        let mut pdu = good_pdu(stage);
+        let mut pdu = good_or_repeated(stage);
         let (ml, tbn) = (get(&pdu, header::ML), get(&pdu, header::TBN));
         let dice = stage.dice();
         match dice.below(6) {

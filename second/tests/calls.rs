@@ -369,6 +369,32 @@ fn multicast_calls_octet_by_octet() {
     assert_eq!(tags(&rows[1..6]), "smmME");
 }
 
+/// Damage between the calls: N1 0 and 16, and R 113 of an open sender; the packet's
+/// entry, and 14.8's a to j behind it.
+#[test]
+fn damage_beside_repeats_is_written() {
+    let rows = section("15.4 Other numbers beside a repeat");
+    assert_eq!(tags(&rows), "sPPPPPPPPtPtPPrPPP");
+    assert_eq!((rows[9].1[2], rows[11].1[2]), (0, 16));
+    // Place, pair, RV 5, R 113, open.
+    let expected = [
+        0, 1, 0, 7, 0, 0, 0, 5, 0, 0, 0, 113, 1, 0, 0, 0, 5, 0, 0, 0, 110,
+    ];
+    assert_eq!(rows[14].1[..21], expected);
+    let rows = section("15.8 Other numbers beside a repeat to a group");
+    let numbers = [
+        "seM",
+        "seM",
+        "seeM",
+        "seeM",
+        &"seM".repeat(6),
+        "steM",
+        "seM",
+    ];
+    assert_eq!(tags(&rows), ["s", &numbers.concat()].concat());
+    assert_eq!(rows[2], ('e', vec![0, 8, 0, 0, 0, 5, 0, 0, 0, 103]));
+}
+
 /// "such a program needs nothing of this page but "The calls as fields"".
 #[test]
 fn the_fields_alone_give_the_same_lines() {

@@ -31,7 +31,7 @@ const NO_GROUPS: &str = " 0 0 0 0 0 0 0 0 0";
 fn without_sums(line: &str) -> String {
     let words: Vec<&str> = line.split(' ').collect();
     match words[0] {
-        "P" => words[..8].join(" "),
+        "P" => words[..9].join(" "),
         "W" if words.len() == 15 => line.strip_suffix(NO_GROUPS).unwrap_or(line).to_string(),
         _ => line.to_string(),
     }
@@ -100,9 +100,9 @@ W 0 1 1 0 0",
 /// with the delivered length.
 fn fresh_message(number: u8, length: usize) -> String {
     match number {
-        0 => "P 0 0 1 0 0 0 0".into(),
-        1 => format!("P 1 1 0 {length} 0 0 0"),
-        _ => format!("P {number} 0 0 0 0 0 0"),
+        0 => "P 0 0 1 0 0 0 0 0".into(),
+        1 => format!("P 1 1 0 {length} 0 0 0 0"),
+        _ => format!("P {number} 0 0 0 0 0 0 0"),
     }
 }
 
@@ -152,11 +152,11 @@ fn lengths_storage_and_the_lowest_number() {
 fn a_test_node_and_the_empty_state() {
     expect(
         "2.5 A test node",
-        "S 0\nP 13 0 0 0 0 0 0\nP 1 1 0 10 0 0 0\nP 1 2 0 10 0 0 0",
+        "S 0\nP 13 0 0 0 0 0 0 0\nP 1 1 0 10 0 0 0 0\nP 1 2 0 10 0 0 0 0",
     );
     expect(
         "2.6 The empty state",
-        "S 10\nP 14 0 0 0 0 0 0\nP 13 0 0 0 0 0 0\nP 12 0 0 0 0 0 0\nP 11 0 0 0 0 0 0",
+        "S 10\nP 14 0 0 0 0 0 0 0\nP 13 0 0 0 0 0 0 0\nP 12 0 0 0 0 0 0 0\nP 11 0 0 0 0 0 0 0",
     );
 }
 
@@ -187,33 +187,33 @@ fn the_number_check_with_n1_16() {
     expect(
         "4.1 N1 16",
         "\
-P 1 5 0 10 0 0 0
-P 1 1 0 10 0 0 0
-P 1 2 0 10 0 0 0
-P 17 0 0 0 0 0 0
-P 17 0 0 0 0 0 0
-P 1 4 0 10 2147483630 0 0
-P 1 4 0 10 2 0 0
-P 1 3 0 10 0 0 0
-P 1 4 0 10 2147483558 0 0
-P 17 0 0 0 0 0 0
-P 1 2 0 10 0 0 0
-P 1 4 0 10 1 0 0
-P 17 0 0 0 0 0 0
-P 1 4 0 10 2147483630 0 0
-P 1 5 0 10 0 0 0
+P 1 5 0 10 0 0 0 0
+P 1 1 0 10 0 0 0 0
+P 1 2 0 10 0 0 0 0
+P 17 0 0 0 0 0 0 0
+P 17 0 0 0 0 15 0 0
+P 1 4 0 10 2147483630 0 0 0
+P 1 4 0 10 2 0 0 0
+P 1 3 0 10 0 0 0 0
+P 1 4 0 10 2147483558 0 0 0
+P 17 0 0 0 0 0 0 0
+P 1 2 0 10 0 0 0 0
+P 1 4 0 10 1 0 0 0
+P 17 0 0 0 0 15 0 0
+P 1 4 0 10 2147483630 0 0 0
+P 1 5 0 10 0 0 0 0
 W 0 16 15000 0 2
 w 0 1 7 6 2147483634 0 0 0 0 0 0 0 0 0 0 0 0 0
 w 1 2 9 0 0 0 0 0 0 0 0 0 0 0 0 0 0 0
-P 1 3 0 10 0 0 0
-P 1 1 0 10 0 0 0
-P 1 1 0 10 0 0 0
-P 1 5 0 10 0 0 0
+P 1 3 0 10 0 0 0 0
+P 1 1 0 10 0 0 0 0
+P 1 1 0 10 0 0 0 0
+P 1 5 0 10 0 0 0 0
 W 0 16 15000 0 2
 w 0 1 7 0 5 0 0 0 0 0 0 0 0 0 0 0 0 0
 w 1 2 9 0 0 0 0 0 0 0 0 0 0 0 0 0 0 0
-P 1 1 0 10 0 0 0
-P 1 2 0 10 0 0 0",
+P 1 1 0 10 0 0 0 0
+P 1 2 0 10 0 0 0 0",
     );
 }
 
@@ -224,20 +224,20 @@ fn the_number_check_with_n1_at_its_ends() {
         "4.2 N1 1",
         "\
 S 0
-P 1 1 0 10 0 0 0
-P 17 0 0 0 0 0 0
-P 1 4 0 10 2147483645 0 0
-P 1 2 0 10 0 0 0",
+P 1 1 0 10 0 0 0 0
+P 17 0 0 0 0 0 0 0
+P 1 4 0 10 2147483645 0 0 0
+P 1 2 0 10 0 0 0 0",
     );
     expect(
         "4.3 N1 1024",
         "\
 S 0
-P 1 1 0 10 0 0 0
-P 17 0 0 0 0 0 0
-P 1 4 0 10 2147482622 0 0
-P 17 0 0 0 0 0 0
-P 1 4 0 10 2147482622 0 0",
+P 1 1 0 10 0 0 0 0
+P 17 0 0 0 0 1023 0 0
+P 1 4 0 10 2147482622 0 0 0
+P 17 0 0 0 0 1023 0 0
+P 1 4 0 10 2147482622 0 0 0",
     );
 }
 
@@ -246,21 +246,21 @@ fn four_pieces() {
     expect(
         "5.1 Four pieces",
         "\
-P 0 0 1 0 0 0 0
+P 0 0 1 0 0 0 0 0
 Q 0 1 0 2 2
-P 0 0 2 0 0 0 0
-P 0 0 3 0 0 0 0
+P 0 0 2 0 0 0 0 0
+P 0 0 3 0 0 0 0 0
 Q 0 1 0 4 4
-P 1 1 0 4500 0 0 0
+P 1 1 0 4500 0 0 0 0
 Q 0 0 0 0 0
-P 17 0 0 0 0 0 0
-P 0 0 1 0 0 0 0
-P 20 0 0 0 0 0 0
-P 0 0 2 0 0 0 0
-P 0 0 3 0 0 0 0
+P 17 0 0 0 0 0 0 0
+P 0 0 1 0 0 0 0 0
+P 20 0 0 0 0 0 0 0
+P 0 0 2 0 0 0 0 0
+P 0 0 3 0 0 0 0 0
 Q 0 1 0 1 1
-P 20 0 0 0 0 0 0
-P 1 2 0 4500 0 0 0",
+P 20 0 0 0 0 0 0 0
+P 1 2 0 4500 0 0 0 0",
     );
 }
 
@@ -269,20 +269,20 @@ P 1 2 0 4500 0 0 0",
 fn twelve_pieces_and_sixty_four() {
     let mut twelve = Vec::new();
     for k in 1..=5 {
-        twelve.push(format!("P 0 0 {} 0 0 0 0", 2 * k - 1));
-        twelve.push(format!("P 0 0 {} 0 0 0 0", 2 * k));
+        twelve.push(format!("P 0 0 {} 0 0 0 0 0", 2 * k - 1));
+        twelve.push(format!("P 0 0 {} 0 0 0 0 0", 2 * k));
         twelve.push(format!("Q 0 1 0 {} {}", k + 1, k + 1));
     }
-    twelve.push("P 0 0 11 0 0 0 0".into());
-    twelve.push("P 1 1 0 16384 0 0 0".into());
+    twelve.push("P 0 0 11 0 0 0 0 0".into());
+    twelve.push("P 1 1 0 16384 0 0 0 0".into());
     twelve.push("Q 0 0 0 0 0".into());
     expect("5.2 Twelve pieces", &twelve.join("\n"));
-    let stored = |held: u32| format!("P 0 0 {held} 0 0 0 0");
+    let stored = |held: u32| format!("P 0 0 {held} 0 0 0 0 0");
     let mut most: Vec<String> = (1..=63).map(stored).collect();
     most.push("Q 0 1 1 64 64".into());
-    most.push("P 0 0 1 0 0 5 99".into());
+    most.push("P 0 0 1 0 0 0 5 99".into());
     most.extend((2..=63).map(stored));
-    most.push("P 1 1 0 16384 0 0 0".into());
+    most.push("P 1 1 0 16384 0 0 0 0".into());
     most.push("Q 0 0 0 0 0".into());
     expect("5.3 Sixty-four pieces", &most.join("\n"));
 }
@@ -292,15 +292,15 @@ fn two_senders() {
     expect(
         "5.4 Two senders",
         "\
-P 0 0 1 0 0 0 0
+P 0 0 1 0 0 0 0 0
 Q 0 1 1 1 1
-P 0 0 1 0 0 0 0
+P 0 0 1 0 0 0 0 0
 Q 0 1 0 2 2
-P 0 0 2 0 0 0 0
-P 0 0 2 0 0 0 0
-P 1 1 0 600 0 0 0
+P 0 0 2 0 0 0 0 0
+P 0 0 2 0 0 0 0 0
+P 1 1 0 600 0 0 0 0
 Q 0 1 1 2 2
-P 1 1 0 600 0 0 0",
+P 1 1 0 600 0 0 0 0",
     );
 }
 
@@ -311,23 +311,23 @@ fn drops() {
     expect(
         "5.5 Drops",
         "\
-P 0 0 1 0 0 0 0
-P 0 0 1 0 0 5 100
+P 0 0 1 0 0 0 0 0
+P 0 0 1 0 0 0 5 100
 Q 0 1 0 2 2
-P 18 0 0 0 0 0 0
-P 0 0 1 0 0 5 101
-P 0 0 1 0 0 6 50
-P 1 1 0 10 0 5 101
+P 18 0 0 0 0 0 0 0
+P 0 0 1 0 0 0 5 101
+P 0 0 1 0 0 0 6 50
+P 1 1 0 10 0 0 5 101
 Q 0 0 0 0 0
-P 0 0 1 0 0 0 0
-P 17 0 0 0 0 0 0
-P 18 0 0 0 0 0 0
-P 18 0 0 0 0 0 0
-P 1 4 0 10 9 5 110
-P 0 0 1 0 0 0 0
-P 0 0 1 0 0 5 2147483647
-P 0 0 1 0 0 5 113
-P 1 5 0 300 0 0 0
+P 0 0 1 0 0 0 0 0
+P 17 0 0 0 0 0 0 0
+P 18 0 0 0 0 0 0 0
+P 18 0 0 0 0 0 0 0
+P 1 4 0 10 9 0 5 110
+P 0 0 1 0 0 0 0 0
+P 0 0 1 0 0 0 5 2147483647
+P 0 0 1 0 0 0 5 113
+P 1 5 0 300 0 0 0 0
 W 0 16 15000 0 2
 w 0 1 7 5 112 0 0 0 0 0 0 0 0 0 0 0 0 0
 w 1 2 9 0 0 0 0 0 0 0 0 0 0 0 0 0 0 0",
@@ -340,24 +340,24 @@ fn unlike_the_open_message() {
     expect(
         "5.6 Unlike the open message",
         "\
-P 0 0 1 0 0 0 0
-P 19 0 0 0 0 0 0
-P 19 0 0 0 0 0 0
-P 19 0 0 0 0 0 0
-P 19 0 0 0 0 0 0
-P 19 0 0 0 0 0 0
-P 19 0 0 0 0 0 0
-P 19 0 0 0 0 0 0
-P 19 0 0 0 0 0 0
-P 20 0 0 0 0 0 0
-P 20 0 0 0 0 0 0
-P 0 0 2 0 0 0 0
-P 0 0 3 0 0 0 0
+P 0 0 1 0 0 0 0 0
+P 19 0 0 0 0 0 0 0
+P 19 0 0 0 0 0 0 0
+P 19 0 0 0 0 0 0 0
+P 19 0 0 0 0 0 0 0
+P 19 0 0 0 0 0 0 0
+P 19 0 0 0 0 0 0 0
+P 19 0 0 0 0 0 0 0
+P 19 0 0 0 0 0 0 0
+P 20 0 0 0 0 0 0 0
+P 20 0 0 0 0 0 0 0
+P 0 0 2 0 0 0 0 0
+P 0 0 3 0 0 0 0 0
 W 0 16 15000 0 2
 w 0 1 7 0 0 1 5 100 1 4500 4 1332 11 3 0 0 0 0
 w 1 2 9 0 0 0 0 0 0 0 0 0 0 0 0 0 0 0
-P 1 1 0 4500 0 0 0
-P 17 0 0 0 0 0 0",
+P 1 1 0 4500 0 0 0 0
+P 17 0 0 0 0 0 0 0",
     );
 }
 
@@ -367,17 +367,17 @@ fn unchecked_of_several_pieces() {
     expect(
         "5.7 Unchecked, of several pieces",
         "\
-P 0 0 1 0 0 0 0
-P 1 5 0 300 0 0 0
-P 0 0 1 0 0 0 0
-P 19 0 0 0 0 0 0
-P 20 0 0 0 0 0 0
-P 0 0 1 0 0 0 1
-P 18 0 0 0 0 0 0
+P 0 0 1 0 0 0 0 0
+P 1 5 0 300 0 0 0 0
+P 0 0 1 0 0 0 0 0
+P 19 0 0 0 0 0 0 0
+P 20 0 0 0 0 0 0 0
+P 0 0 1 0 0 0 0 1
+P 18 0 0 0 0 0 0 0
 W 0 16 15000 0 2
 w 0 1 7 0 0 1 0 2 1 300 2 256 1 1 0 0 0 0
 w 1 2 9 0 0 0 0 0 0 0 0 0 0 0 0 0 0 0
-P 1 1 0 300 0 0 0
+P 1 1 0 300 0 0 0 0
 W 0 16 15000 0 2
 w 0 1 7 0 2 0 0 0 0 0 0 0 0 0 0 0 0 0
 w 1 2 9 0 0 0 0 0 0 0 0 0 0 0 0 0 0 0",
@@ -393,33 +393,33 @@ fn closed(sender: &str, last: &str, heard: &str) -> String {
 /// Each piece that joins is one more; a refused one is none. Pieces 2 and 4 are
 /// bits 1 and 3: map 10.
 const COUNT_OF_JOINS: &str = "\
-P 0 0 1 0 0 0 0
+P 0 0 1 0 0 0 0 0
 H 1
 H 0
 H 0
-P 0 0 2 0 0 0 0
+P 0 0 2 0 0 0 0 0
 H 2
 W 0 16 15000 0 2
 w 0 1 7 0 0 1 5 100 1 4500 4 1332 10 2 0 0 0 0
 w 1 2 9 0 0 0 0 0 0 0 0 0 0 0 0 0 0 0
-P 20 0 0 0 0 0 0
+P 20 0 0 0 0 0 0 0
 H 2
-P 18 0 0 0 0 0 0
+P 18 0 0 0 0 0 0 0
 H 2
-P 19 0 0 0 0 0 0
+P 19 0 0 0 0 0 0 0
 H 2
-P 16 0 0 0 0 0 0
+P 16 0 0 0 0 0 0 0
 H 2
-P 13 0 0 0 0 0 0
+P 13 0 0 0 0 0 0 0
 H 2
-P 11 0 0 0 0 0 0
+P 11 0 0 0 0 0 0 0
 H 2
 ";
 
 /// The second sender's piece of ms 0 is its own; a signal and a clock call that
 /// drops nothing leave both counts.
 const COUNT_BESIDE_OTHERS: &str = "\
-P 0 0 1 0 0 0 0
+P 0 0 1 0 0 0 0 0
 H 2
 H 1
 H 0
@@ -429,7 +429,7 @@ H 1
 C 0 0 0
 H 2
 H 1
-P 0 0 3 0 0 0 0
+P 0 0 3 0 0 0 0 0
 H 3
 H 1
 ";
@@ -437,17 +437,17 @@ H 1
 /// A newcomer's first piece is 1, whatever was held before. The second sender's
 /// stamp is 0 and the first's 1000, so that T 15000 drops them at 15999 and 16000.
 const COUNT_OF_NEWCOMERS: &str = "\
-P 0 0 1 0 0 5 100
+P 0 0 1 0 0 0 5 100
 H 1
 H 1
 W 0 16 15000 1000 2
 w 0 1 7 0 0 1 5 101 1 4500 4 1332 4 1 1000 1 0 60
 w 1 2 9 0 0 1 5 100 1 4500 4 1332 1 1 0 0 0 0
-P 0 0 2 0 0 0 0
+P 0 0 2 0 0 0 0 0
 H 2
-P 0 0 1 0 0 5 101
+P 0 0 1 0 0 0 5 101
 H 1
-P 0 0 2 0 0 0 0
+P 0 0 2 0 0 0 0 0
 H 2
 C 0 2 0
 H 2
@@ -462,30 +462,30 @@ w 1 2 9 0 0 0 0 0 0 0 0 0 0 0 0 0 0 0
 
 /// Nothing is held behind a delivery. Behind (6, 51) number 61 skips 9.
 const COUNT_OF_DELIVERIES: &str = "\
-P 0 0 1 0 0 0 0
+P 0 0 1 0 0 0 0 0
 H 1
-P 0 0 2 0 0 0 0
+P 0 0 2 0 0 0 0 0
 H 2
-P 0 0 3 0 0 0 0
+P 0 0 3 0 0 0 0 0
 H 3
-P 1 1 0 4500 0 0 0
+P 1 1 0 4500 0 0 0 0
 H 0
 W 0 16 15000 16000 2
 w 0 1 7 6 50 0 0 0 0 0 0 0 0 0 0 1 0 60
 w 1 2 9 0 0 0 0 0 0 0 0 0 0 0 0 0 0 0
-P 17 0 0 0 0 0 0
+P 17 0 0 0 0 0 0 0
 H 0
-P 1 2 0 10 0 0 0
+P 1 2 0 10 0 0 0 0
 H 0
-P 0 0 1 0 0 0 0
+P 0 0 1 0 0 0 0 0
 H 1
-P 17 0 0 0 0 0 0
+P 17 0 0 0 0 0 0 0
 H 1
-P 1 4 0 10 9 6 60
+P 1 4 0 10 9 0 6 60
 H 0
-P 0 0 1 0 0 0 0
+P 0 0 1 0 0 0 0 0
 H 1
-P 1 5 0 300 0 0 0
+P 1 5 0 300 0 0 0 0
 H 0
 W 0 16 15000 16000 2
 w 0 1 7 6 61 0 0 0 0 0 0 0 0 0 0 1 0 60
@@ -495,24 +495,24 @@ w 1 2 9 0 0 0 0 0 0 0 0 0 0 0 0 0 0 0
 /// Twelve pieces under version 7, a restart; then 63 of 64, and all of the next
 /// message's. Pieces 1 to 63 are the map 2^63 - 1.
 fn count_of_long_messages() -> String {
-    let joined = |held: u32| format!("P 0 0 {held} 0 0 0 0\nH {held}\n");
+    let joined = |held: u32| format!("P 0 0 {held} 0 0 0 0 0\nH {held}\n");
     let clock = "W 0 16 15000 16000 2\n";
     let first = closed("0 1 7", "7 100", "1 0 60");
     let mut lines: String = (1..=11).map(joined).collect();
-    lines += "P 1 3 0 16384 0 0 0\nH 0\n";
+    lines += "P 1 3 0 16384 0 0 0 0\nH 0\n";
     lines.extend((1..=63).map(joined));
     lines += &[clock, &first].concat();
     lines += "w 1 2 9 0 0 1 5 99 1 16384 64 256 9223372036854775807 63 16000 0 0 0\n";
-    lines += "P 0 0 1 0 0 5 99\nH 1\n";
+    lines += "P 0 0 1 0 0 0 5 99\nH 1\n";
     lines.extend((2..=63).map(joined));
-    lines += "P 1 1 0 16384 0 0 0\nH 0\n";
+    lines += "P 1 1 0 16384 0 0 0 0\nH 0\n";
     lines += &[clock, &first, &closed("1 2 9", "5 100", "0 0 0")].concat();
     lines
 }
 
 #[test]
 fn the_kept_count() {
-    let sixteen = "S 0\nH 0\nH 0\nP 0 0 1 0 0 0 0\nH 0\nH 0\nH 1\nH 0\nH 0\n";
+    let sixteen = "S 0\nH 0\nH 0\nP 0 0 1 0 0 0 0 0\nH 0\nH 0\nH 1\nH 0\nH 0\n";
     let parts = [
         "H 0\nH 0\nH 0\nH 0\nH 0\nH 0\n",
         COUNT_OF_JOINS,
@@ -529,20 +529,20 @@ fn the_kept_count() {
 /// "open M, 1 comes: replaced. Open 1, M comes: 18." The second sender's 1 stands
 /// beside it. Of three pieces the second is bit 1: map 2.
 const M_AND_THEN_1: &str = "\
-P 0 0 1 0 0 0 0
-P 0 0 1 0 0 0 0
-P 0 0 1 0 0 5 2147483647
+P 0 0 1 0 0 0 0 0
+P 0 0 1 0 0 0 0 0
+P 0 0 1 0 0 0 5 2147483647
 W 0 16 15000 0 2
 w 0 1 7 0 0 1 5 1 1 600 3 256 2 1 0 0 0 0
 w 1 2 9 0 0 1 5 1 1 600 3 256 1 1 0 0 0 0
-P 18 0 0 0 0 0 0
-P 18 0 0 0 0 0 0
-P 18 0 0 0 0 0 0
+P 18 0 0 0 0 0 0 0
+P 18 0 0 0 0 0 0 0
+P 18 0 0 0 0 0 0 0
 H 1
 H 1
-P 0 0 2 0 0 0 0
-P 1 1 0 600 0 0 0
-P 17 0 0 0 0 0 0
+P 0 0 2 0 0 0 0 0
+P 1 1 0 600 0 0 0 0
+P 17 0 0 0 0 1 0 0
 W 0 16 15000 0 2
 w 0 1 7 5 1 0 0 0 0 0 0 0 0 0 0 0 0 0
 w 1 2 9 0 0 1 5 1 1 600 3 256 1 1 0 0 0 0
@@ -550,30 +550,30 @@ w 1 2 9 0 0 1 5 1 1 600 3 256 1 1 0 0 0 0
 
 /// Two pieces of M are joined; behind 1 under version 6 it is a repeat.
 const DROPPED_BY_ONE_PIECE: &str = "\
-P 0 0 1 0 0 0 0
-P 0 0 1 0 0 6 2147483646
-P 0 0 2 0 0 0 0
+P 0 0 1 0 0 0 0 0
+P 0 0 1 0 0 0 6 2147483646
+P 0 0 2 0 0 0 0 0
 H 2
-P 1 3 0 10 0 6 2147483647
+P 1 3 0 10 0 0 6 2147483647
 H 0
-P 17 0 0 0 0 0 0
+P 17 0 0 0 0 1 0 0
 ";
 
 /// Behind M - 1 number 1 skips one, M. Behind M - 2 all four are next.
 const DELIVERED_OVER_THE_END: &str = "\
-P 1 3 0 10 0 0 0
-P 0 0 1 0 0 0 0
-P 0 0 1 0 0 7 2147483647
-P 1 4 0 300 1 0 0
-P 1 3 0 10 0 0 0
-P 0 0 1 0 0 0 0
-P 1 2 0 300 0 0 0
-P 0 0 1 0 0 0 0
-P 1 2 0 300 0 0 0
-P 0 0 1 0 0 0 0
-P 1 2 0 300 0 0 0
-P 0 0 1 0 0 0 0
-P 1 2 0 300 0 0 0
+P 1 3 0 10 0 0 0 0
+P 0 0 1 0 0 0 0 0
+P 0 0 1 0 0 0 7 2147483647
+P 1 4 0 300 1 0 0 0
+P 1 3 0 10 0 0 0 0
+P 0 0 1 0 0 0 0 0
+P 1 2 0 300 0 0 0 0
+P 0 0 1 0 0 0 0 0
+P 1 2 0 300 0 0 0 0
+P 0 0 1 0 0 0 0 0
+P 1 2 0 300 0 0 0 0
+P 0 0 1 0 0 0 0 0
+P 1 2 0 300 0 0 0 0
 W 0 16 15000 0 2
 w 0 1 7 8 2 0 0 0 0 0 0 0 0 0 0 0 0 0
 w 1 2 9 0 0 1 5 1 1 600 3 256 1 1 0 0 0 0
@@ -581,25 +581,25 @@ w 1 2 9 0 0 1 5 1 1 600 3 256 1 1 0 0 0 0
 
 /// Each drops the one before; RV is 8, so that version 9 is a restart.
 const ANOTHER_VERSION: &str = "\
-P 0 0 1 0 0 0 0
-P 0 0 1 0 0 9 1
-P 0 0 1 0 0 10 2147483647
-P 0 0 1 0 0 9 1
-P 0 0 1 0 0 10 1073741824
-P 0 0 1 0 0 9 1
-P 0 0 1 0 0 10 1073741825
-P 0 0 1 0 0 9 1
-P 1 3 0 10 0 10 1
+P 0 0 1 0 0 0 0 0
+P 0 0 1 0 0 0 9 1
+P 0 0 1 0 0 0 10 2147483647
+P 0 0 1 0 0 0 9 1
+P 0 0 1 0 0 0 10 1073741824
+P 0 0 1 0 0 0 9 1
+P 0 0 1 0 0 0 10 1073741825
+P 0 0 1 0 0 0 9 1
+P 1 3 0 10 0 0 10 1
 ";
 
 /// (0, 1) is unchecked and leaves RV and R, so that (0, M) opens again.
 const VERSION_0: &str = "\
-P 0 0 1 0 0 0 0
-P 0 0 1 0 0 0 2147483647
-P 18 0 0 0 0 0 0
-P 1 5 0 300 0 0 0
-P 0 0 1 0 0 0 0
-P 1 5 0 10 0 0 2147483647
+P 0 0 1 0 0 0 0 0
+P 0 0 1 0 0 0 0 2147483647
+P 18 0 0 0 0 0 0 0
+P 1 5 0 300 0 0 0 0
+P 0 0 1 0 0 0 0 0
+P 1 5 0 10 0 0 0 2147483647
 W 0 16 15000 0 2
 w 0 1 7 9 2147483647 0 0 0 0 0 0 0 0 0 0 0 0 0
 w 1 2 9 0 0 1 5 1 1 600 3 256 1 1 0 0 0 0
@@ -617,12 +617,12 @@ fn numbers_that_came_round() {
     expect("5.9 Numbers that came round", &parts.concat());
 }
 
-/// What y is to the open x by 02. A newer one is close where x is a repeat behind
-/// its delivery.
+/// What y is to the open x by 02. A newer one is close, so many steps on, where x is
+/// a repeat behind its delivery, of that age.
 #[derive(Clone, Copy, Debug, PartialEq)]
 enum Comes {
     Newer,
-    NewerAndClose,
+    NewerAndClose(u32),
     Older,
     Same,
 }
@@ -632,19 +632,21 @@ enum Comes {
 /// number 17 or a gap that opens.
 fn meeting(x: u32, y: Comes) -> String {
     let several = match y {
-        Comes::Newer | Comes::NewerAndClose => {
-            format!("P 0 0 1 0 0 5 {x}\nP 18 0 0 0 0 0 0\nQ 0 1 0 1 1\n")
+        Comes::Newer | Comes::NewerAndClose(_) => {
+            format!("P 0 0 1 0 0 0 5 {x}\nP 18 0 0 0 0 0 0 0\nQ 0 1 0 1 1\n")
         }
-        Comes::Older => "P 18 0 0 0 0 0 0\nP 0 0 2 0 0 0 0\nQ 0 1 0 2 2\n".into(),
-        Comes::Same => "P 0 0 2 0 0 0 0\nP 1 1 0 600 0 0 0\nQ 0 0 0 0 0\n".into(),
+        Comes::Older => "P 18 0 0 0 0 0 0 0\nP 0 0 2 0 0 0 0 0\nQ 0 1 0 2 2\n".into(),
+        Comes::Same => "P 0 0 2 0 0 0 0 0\nP 1 1 0 600 0 0 0 0\nQ 0 0 0 0 0\n".into(),
     };
     let one = match y {
-        Comes::Newer => format!("P 1 1 0 10 0 5 {x}\nP 0 0 1 0 0 0 0\nQ 0 1 0 1 1\n"),
-        Comes::NewerAndClose => format!("P 1 1 0 10 0 5 {x}\nP 17 0 0 0 0 0 0\nQ 0 0 0 0 0\n"),
-        Comes::Older => "P 18 0 0 0 0 0 0\nP 0 0 2 0 0 0 0\nQ 0 1 0 2 2\n".into(),
-        Comes::Same => "P 19 0 0 0 0 0 0\nP 0 0 2 0 0 0 0\nQ 0 1 0 2 2\n".into(),
+        Comes::Newer => format!("P 1 1 0 10 0 0 5 {x}\nP 0 0 1 0 0 0 0 0\nQ 0 1 0 1 1\n"),
+        Comes::NewerAndClose(age) => {
+            format!("P 1 1 0 10 0 0 5 {x}\nP 17 0 0 0 0 {age} 0 0\nQ 0 0 0 0 0\n")
+        }
+        Comes::Older => "P 18 0 0 0 0 0 0 0\nP 0 0 2 0 0 0 0 0\nQ 0 1 0 2 2\n".into(),
+        Comes::Same => "P 19 0 0 0 0 0 0 0\nP 0 0 2 0 0 0 0 0\nQ 0 1 0 2 2\n".into(),
     };
-    let opens = "P 0 0 1 0 0 0 0\n";
+    let opens = "P 0 0 1 0 0 0 0 0\n";
     [opens, &several, opens, &one].concat()
 }
 
@@ -685,9 +687,9 @@ fn around_the_end() -> Vec<(usize, usize, Comes)> {
     use Comes::{NewerAndClose, Older, Same};
     let numbers = [2_147_483_646, 2_147_483_647, 1, 2];
     let rows = [
-        [Same, NewerAndClose, NewerAndClose, NewerAndClose],
-        [Older, Same, NewerAndClose, NewerAndClose],
-        [Older, Older, Same, NewerAndClose],
+        [Same, NewerAndClose(1), NewerAndClose(2), NewerAndClose(3)],
+        [Older, Same, NewerAndClose(1), NewerAndClose(2)],
+        [Older, Older, Same, NewerAndClose(1)],
         [Older, Older, Older, Same],
     ];
     let of_x = |(x, row): (usize, [Comes; 4])| {
@@ -718,27 +720,27 @@ fn repeats_around_the_end_of_the_ring() {
     expect(
         "5.12 17 before 18",
         "\
-P 1 1 0 10 0 0 0
-P 0 0 1 0 0 0 0
-P 17 0 0 0 0 0 0
-P 17 0 0 0 0 0 0
-P 18 0 0 0 0 0 0
-P 18 0 0 0 0 0 0
-P 1 4 0 300 1 0 0
-P 1 3 0 10 0 0 0
-P 0 0 1 0 0 0 0
-P 17 0 0 0 0 0 0
-P 17 0 0 0 0 0 0
-P 17 0 0 0 0 0 0
-P 17 0 0 0 0 0 0
-P 0 0 1 0 0 6 2147483547
-P 1 2 0 10 0 6 2147483633
-P 1 3 0 10 0 0 0
-P 0 0 1 0 0 0 0
-P 17 0 0 0 0 0 0
-P 17 0 0 0 0 0 0
-P 18 0 0 0 0 0 0
-P 0 0 1 0 0 7 1073741824
+P 1 1 0 10 0 0 0 0
+P 0 0 1 0 0 0 0 0
+P 17 0 0 0 0 2 0 0
+P 17 0 0 0 0 15 0 0
+P 18 0 0 0 0 0 0 0
+P 18 0 0 0 0 0 0 0
+P 1 4 0 300 1 0 0 0
+P 1 3 0 10 0 0 0 0
+P 0 0 1 0 0 0 0 0
+P 17 0 0 0 0 2 0 0
+P 17 0 0 0 0 1 0 0
+P 17 0 0 0 0 0 0 0
+P 17 0 0 0 0 15 0 0
+P 0 0 1 0 0 0 6 2147483547
+P 1 2 0 10 0 0 6 2147483633
+P 1 3 0 10 0 0 0 0
+P 0 0 1 0 0 0 0 0
+P 17 0 0 0 0 0 0 0
+P 17 0 0 0 0 1 0 0
+P 18 0 0 0 0 0 0 0
+P 0 0 1 0 0 0 7 1073741824
 W 0 16 15000 0 2
 w 0 1 7 7 1 1 7 2147483632 1 300 2 256 2 1 0 0 0 0
 w 1 2 9 0 0 0 0 0 0 0 0 0 0 0 0 0 0 0",
@@ -750,21 +752,135 @@ fn three_numbers_in_a_circle() {
     expect(
         "5.13 Three numbers in a circle",
         "\
-P 0 0 1 0 0 0 0
-P 0 0 1 0 0 5 1
-P 0 0 1 0 0 5 715827883
-P 0 0 1 0 0 5 1431655765
-P 18 0 0 0 0 0 0
-P 0 0 1 0 0 5 1
+P 0 0 1 0 0 0 0 0
+P 0 0 1 0 0 0 5 1
+P 0 0 1 0 0 0 5 715827883
+P 0 0 1 0 0 0 5 1431655765
+P 18 0 0 0 0 0 0 0
+P 0 0 1 0 0 0 5 1
 W 0 16 15000 0 2
 w 0 1 7 0 0 1 5 715827883 1 300 2 256 1 1 0 0 0 0
 w 1 2 9 0 0 0 0 0 0 0 0 0 0 0 0 0 0 0
-P 18 0 0 0 0 0 0
-P 1 1 0 10 0 5 715827883
+P 18 0 0 0 0 0 0 0
+P 1 1 0 10 0 0 5 715827883
 W 0 16 15000 0 2
 w 0 1 7 5 1431655765 0 0 0 0 0 0 0 0 0 0 0 0 0
 w 1 2 9 0 0 0 0 0 0 0 0 0 0 0 0 0 0 0",
     );
+}
+
+/// A repeat of this age.
+fn repeat(age: u32) -> String {
+    format!("P 17 0 0 0 0 {age} 0 0\n")
+}
+
+/// One piece of 10 octets that is delivered with this verdict and skipped count.
+fn delivered(verdict: u8, skipped: u32) -> String {
+    format!("P 1 {verdict} 0 10 {skipped} 0 0 0\n")
+}
+
+/// A refusal without an age.
+fn bare(number: u8) -> String {
+    format!("P {number} 0 0 0 0 0 0 0\n")
+}
+
+/// 100 - 84 is 16 and 3 - 16 is -13, M - 13; 84 - 100 - 1 and -13 - 3 - 1 are -17.
+#[test]
+fn ages_of_repeats_with_n1_16() {
+    let parts = [
+        delivered(1, 0),
+        [0, 1, 8, 15].map(repeat).concat(),
+        delivered(4, 2_147_483_630),
+        repeat(0),
+        delivered(3, 0),
+        [2, 3, 15].map(repeat).concat(),
+        delivered(4, 2_147_483_630),
+        delivered(3, 0),
+        repeat(1),
+    ];
+    expect("15.1 Ages of a repeat, N1 16", &parts.concat());
+}
+
+/// 99 - 100 - 1 is -2, M - 1 - 1 - 1 is M - 3, -24 - 1000 - 1 is -1025.
+#[test]
+fn ages_of_repeats_with_other_n1() {
+    let first = ["S 0\n".to_string(), delivered(1, 0)].concat();
+    let parts = [
+        first.clone(),
+        repeat(0),
+        delivered(4, 2_147_483_645),
+        first.clone(),
+        repeat(1),
+        delivered(4, 2_147_483_644),
+        first,
+        [255, 256, 1_023].map(repeat).concat(),
+        delivered(4, 2_147_482_622),
+    ];
+    expect("15.2 Ages of a repeat, N1 1, 2 and 1024", &parts.concat());
+}
+
+/// R is 100 while 110 is open, and then 110: 101 to 109 are skipped.
+#[test]
+fn ages_from_the_number_last_delivered() {
+    let opened = "P 0 0 1 0 0 0 0 0\n";
+    let parts = [
+        delivered(1, 0),
+        opened.into(),
+        [0, 3, 15].map(repeat).concat(),
+        [18, 19, 20].map(bare).concat(),
+        "P 0 0 2 0 0 0 0 0\nP 1 4 0 600 9 0 0 0\n".into(),
+        [10, 0].map(repeat).concat(),
+        opened.into(),
+        repeat(2),
+        "P 0 0 1 0 0 0 5 2147483600\n".into(),
+        repeat(5),
+        "C 0 1 0\n".into(),
+        repeat(15),
+    ];
+    expect("15.3 From the number last delivered", &parts.concat());
+}
+
+/// R is 103, and then 113.
+#[test]
+fn other_numbers_beside_a_repeat() {
+    let parts = [
+        delivered(1, 0),
+        repeat(3),
+        [11, 12, 13, 14, 15, 16, 9].map(bare).concat(),
+        repeat(3),
+        "P 0 0 1 0 0 0 0 0\n".into(),
+        [5, 3, 3].map(repeat).concat(),
+    ];
+    expect("15.4 Other numbers beside a repeat", &parts.concat());
+}
+
+#[test]
+fn ages_beside_unchecked_and_under_version_0() {
+    let parts = [
+        delivered(1, 0),
+        delivered(5, 0),
+        repeat(10),
+        "P 0 0 1 0 0 0 0 0\n".into(),
+        repeat(10),
+        "P 1 5 0 300 0 0 0 0\n".into(),
+        repeat(15),
+        delivered(3, 0),
+        delivered(1, 0).repeat(2),
+        repeat(0),
+    ];
+    expect("15.5 Unchecked, and version 0", &parts.concat());
+}
+
+/// The second sender's R is 105; the first's 100, and then 103.
+#[test]
+fn ages_of_each_sender() {
+    let parts = [
+        delivered(1, 0).repeat(2),
+        [5, 10].map(repeat).concat(),
+        delivered(4, 2),
+        [8, 10, 15].map(repeat).concat(),
+    ];
+    expect("15.6 Each sender's own", &parts.concat());
 }
 
 #[test]
@@ -781,28 +897,28 @@ fn ages_of_open_messages() {
         "6.2 Age of a message",
         "\
 C 0 0 0
-P 0 0 1 0 0 0 0
+P 0 0 1 0 0 0 0 0
 C 0 0 0
-P 0 0 2 0 0 0 0
+P 0 0 2 0 0 0 0 0
 C 0 0 0
-P 20 0 0 0 0 0 0
-P 0 0 1 0 0 0 0
+P 20 0 0 0 0 0 0 0
+P 0 0 1 0 0 0 0 0
 W 0 16 15000 9000 2
 w 0 1 7 0 0 1 5 100 1 4500 4 1332 3 2 8000 0 0 0
 w 1 2 9 0 0 1 5 100 1 300 2 256 1 1 9000 0 0 0
 C 0 0 0
 C 0 1 0
 Q 0 1 1 2 2
-P 0 0 1 0 0 0 0
+P 0 0 1 0 0 0 0 0
 C 0 2 0
 C 0 0 0
 C 0 1 0
 Q 0 0 0 0 0
-P 0 0 1 0 0 0 0
-P 0 0 1 0 0 0 0
+P 0 0 1 0 0 0 0 0
+P 0 0 1 0 0 0 0 0
 C 0 3 0",
     );
-    let once = "S 0\nP 0 0 1 0 0 0 0\nC 0 0 0\nC 0 1 0";
+    let once = "S 0\nP 0 0 1 0 0 0 0 0\nC 0 0 0\nC 0 1 0";
     expect("6.3 T at its ends", &[once, once].join("\n"));
 }
 
@@ -832,7 +948,7 @@ w 1 2 9 0 0 0 0 0 0 0 0 0 0 0 0 0 0 0",
     );
     expect(
         "6.5 Both maps",
-        "A 0\nA 0\nP 0 0 1 0 0 0 0\nC 0 0 0\nP 0 0 1 0 0 0 0\nC 0 0 2\nC 0 3 1",
+        "A 0\nA 0\nP 0 0 1 0 0 0 0 0\nC 0 0 0\nP 0 0 1 0 0 0 0 0\nC 0 0 2\nC 0 3 1",
     );
 }
 
@@ -892,17 +1008,17 @@ w 1 2 9 0 0 0 0 0 0 0 0 0 0 0 0 0 0 0",
 }
 
 /// What the four calls answer on a damaged state.
-const REFUSED: [&str; 4] = ["P 9 0 0 0 0 0 0", "A 9", "C 9 0 0", "Q 9 0 0 0 0"];
+const REFUSED: [&str; 4] = ["P 9 0 0 0 0 0 0 0", "A 9", "C 9 0 0", "Q 9 0 0 0 0"];
 /// Piece 2 is held, piece 1 joins it, piece 3 is missing.
-const PASSES: [&str; 4] = ["P 0 0 2 0 0 0 0", "A 0", "C 0 0 0", "Q 0 1 0 3 3"];
+const PASSES: [&str; 4] = ["P 0 0 2 0 0 0 0 0", "A 0", "C 0 0 0", "Q 0 1 0 3 3"];
 /// The state passes; the PDU's n differs from the open message's.
-const UNLIKE: [&str; 4] = ["P 19 0 0 0 0 0 0", "A 0", "C 0 0 0", "Q 0 1 0 1 1"];
+const UNLIKE: [&str; 4] = ["P 19 0 0 0 0 0 0 0", "A 0", "C 0 0 0", "Q 0 1 0 1 1"];
 /// Pieces 2 and 3 are held, piece 1 joins them, piece 4 is missing.
-const TWO_HELD: [&str; 4] = ["P 0 0 3 0 0 0 0", "A 0", "C 0 0 0", "Q 0 1 0 4 4"];
+const TWO_HELD: [&str; 4] = ["P 0 0 3 0 0 0 0 0", "A 0", "C 0 0 0", "Q 0 1 0 4 4"];
 /// Nothing was open: piece 1 opens, piece 2 is missing.
-const OPENS: [&str; 4] = ["P 0 0 1 0 0 0 0", "A 0", "C 0 0 0", "Q 0 1 0 2 2"];
+const OPENS: [&str; 4] = ["P 0 0 1 0 0 0 0 0", "A 0", "C 0 0 0", "Q 0 1 0 2 2"];
 /// The empty state: nobody is registered.
-const NOBODY: [&str; 4] = ["P 14 0 0 0 0 0 0", "A 14", "C 0 0 0", "Q 0 0 0 0 0"];
+const NOBODY: [&str; 4] = ["P 14 0 0 0 0 0 0 0", "A 14", "C 0 0 0", "Q 0 0 0 0 0"];
 
 /// The rows of the section, from 1, that are not refused with 9.
 fn expect_rows(title: &str, count: usize, passing: &[(usize, [&str; 4])]) {
@@ -957,21 +1073,26 @@ fn what_is_written_over_junk() {
     let open = ["0 0", "1 5 100 1 300 2 256 2 1 1000", UNHEARD];
     let rows = [
         junk_row(
-            "P 1 1 0 10 0 0 0",
+            "P 1 1 0 10 0 0 0 0",
             1_000,
             ["5 100", &nought, UNHEARD],
             "0 0",
         ),
-        junk_row("P 1 5 0 10 0 0 0", 1_000, ["0 0", &nought, UNHEARD], "0 0"),
-        junk_row("P 0 0 1 0 0 0 0", 1_000, open, "0 0"),
         junk_row(
-            "P 1 1 0 300 0 0 0",
+            "P 1 5 0 10 0 0 0 0",
+            1_000,
+            ["0 0", &nought, UNHEARD],
+            "0 0",
+        ),
+        junk_row("P 0 0 1 0 0 0 0 0", 1_000, open, "0 0"),
+        junk_row(
+            "P 1 1 0 300 0 0 0 0",
             1_000,
             ["5 100", &nought, UNHEARD],
             "0 0",
         ),
-        junk_row("P 13 0 0 0 0 0 0", 1_000, still, "0 0"),
-        junk_row("P 1 1 0 10 0 0 0", 1_000, still, "5 100"),
+        junk_row("P 13 0 0 0 0 0 0 0", 1_000, still, "0 0"),
+        junk_row("P 1 1 0 10 0 0 0 0", 1_000, still, "5 100"),
         junk_row("A 0", 1_000, ["0 0", &junk, "1 1000 60"], "0 0"),
         junk_row("A 0", 1_000, ["0 0", &junk, "0 0 0"], "0 0"),
         junk_row("C 0 0 0", 1_001, still, "0 0"),
@@ -1008,12 +1129,12 @@ fn the_count_of_damaged_states() {
 #[test]
 fn sixteen_senders() {
     let mut expected = vec!["S 0".to_string()];
-    expected.extend((0..16).map(|_| "P 0 0 1 0 0 0 0".into()));
+    expected.extend((0..16).map(|_| "P 0 0 1 0 0 0 0 0".into()));
     expected.push("Q 0 1 0 1 1".into());
-    expected.extend((0..16).map(|_| "P 1 1 0 300 0 0 0".into()));
+    expected.extend((0..16).map(|_| "P 1 1 0 300 0 0 0 0".into()));
     expected.push("Q 0 0 0 0 0".into());
     expected.extend((0..16).map(|_| "A 0".into()));
-    expected.push("P 0 0 1 0 0 0 0".into());
+    expected.push("P 0 0 1 0 0 0 0 0".into());
     expected.push("Q 0 1 15 1 1".into());
     expected.push("C 0 0 255".into());
     expected.push("W 0 16 15000 7000 16".into());
@@ -1085,7 +1206,7 @@ fn sums(title: &str) -> Vec<(u64, u64, u64)> {
     let numbers = |line: &String| {
         let words: Vec<&str> = line.split(' ').collect();
         let number = |at: usize| words[at].parse().unwrap();
-        (words[0] == "P").then(|| (number(1), number(8), number(9)))
+        (words[0] == "P").then(|| (number(1), number(9), number(10)))
     };
     section(title).iter().filter_map(numbers).collect()
 }
@@ -1232,18 +1353,50 @@ fn sums_of_repeats_and_of_the_circle() {
     expect_sums("5.13 Three numbers in a circle", 2, &circle);
 }
 
+/// A repeat leaves the storage, whatever its age. One call of 15.4 is lent less.
+#[test]
+fn sums_beside_ages_of_repeats() {
+    let m = 2_147_483_647;
+    let of_ones = |seqs: &[usize]| seqs.iter().flat_map(|seq| of_one(*seq)).collect::<Vec<_>>();
+    let title = "15.1 Ages of a repeat, N1 16";
+    expect_sums(title, 2, &of_ones(&[100, 84, 3, m - 13, 1]));
+    let title = "15.2 Ages of a repeat, N1 1, 2 and 1024";
+    expect_sums(title, 2, &of_ones(&[100, 99, 1, m - 1, 1_000, m - 24]));
+    let brought = [
+        of_one(100),
+        of_three(0, 110, &[1, 2, 3]),
+        of_two(2_147_483_600, &[1]),
+        of_two(1, &[1]),
+    ];
+    expect_sums("15.3 From the number last delivered", 2, &brought.concat());
+    let title = "15.4 Other numbers beside a repeat";
+    let mut lines = sums(title);
+    assert_eq!(lines.remove(2), (11, 7, sum(&[170; 32_767])));
+    let brought = [of_one(103), of_three(0, 110, &[1])].concat();
+    expect_sums_of(title, &lines, 2, &brought);
+    let brought = [
+        of_ones(&[100, 1]),
+        of_two(1, &[1, 2]),
+        of_ones(&[100, 100, 95]),
+    ];
+    expect_sums("15.5 Unchecked, and version 0", 2, &brought.concat());
+    let brought = [of_one(100), vec![[1, 105, 10, 256, 0]], of_one(103)];
+    expect_sums("15.6 Each sender's own", 2, &brought.concat());
+    expect_sums("15.9 Each entry's own", 2, &of_one(104));
+}
+
 /// What the six P lines of a pair bring, three of several pieces and three of one.
 fn brought_by_a_pair(x: usize, y: usize, comes: Comes) -> [Vec<Brought>; 2] {
     let of = |seq, piece| [0, seq, 600, 256, piece];
     let whole = [0, y, 10, 256, 0];
     let several = match comes {
-        Comes::Newer | Comes::NewerAndClose => vec![of(x, 1), of(y, 2)],
+        Comes::Newer | Comes::NewerAndClose(_) => vec![of(x, 1), of(y, 2)],
         Comes::Older => vec![of(x, 1), of(x, 3)],
         Comes::Same => vec![of(x, 1), of(x, 2), of(x, 3)],
     };
     let one = match comes {
         Comes::Newer => vec![of(x, 1), whole, of(x, 3)],
-        Comes::NewerAndClose => vec![of(x, 1), whole],
+        Comes::NewerAndClose(_) => vec![of(x, 1), whole],
         Comes::Older | Comes::Same => vec![of(x, 1), of(x, 3)],
     };
     [several, one]
@@ -1419,11 +1572,12 @@ fn sums_of_damaged_states() {
 fn lines_with_senders(c: usize) -> Vec<String> {
     let map = 1 << (c - 1);
     let mut expected: Vec<String> = Vec::new();
-    expected.extend(["S 0", "P 0 0 1 0 0 0 0", "P 14 0 0 0 0 0 0"].map(String::from));
+    expected.extend(["S 0", "P 0 0 1 0 0 0 0 0", "P 14 0 0 0 0 0 0 0"].map(String::from));
     let storage = if c < 16 { 2 } else { 1 };
-    expected.extend((0..storage).map(|_| "P 11 0 0 0 0 0 0".into()));
+    expected.extend((0..storage).map(|_| "P 11 0 0 0 0 0 0 0".into()));
     expected.push(format!("Q 0 1 {} 1 1", c - 1));
-    expected.extend(["A 0", "C 0 0 0", "P 1 1 0 300 0 0 0", "P 0 0 1 0 0 0 0"].map(String::from));
+    expected
+        .extend(["A 0", "C 0 0 0", "P 1 1 0 300 0 0 0 0", "P 0 0 1 0 0 0 0 0"].map(String::from));
     expected.push(format!("C 0 0 {map}"));
     expected.push(format!("C 0 {map} 0"));
     expected.push(format!("W 0 16 15000 29999 {c}"));
@@ -1774,7 +1928,7 @@ fn parts_of_packet_and_storage() {
     let line = |part: &&[u8]| format!("R {} {}", part.len(), sum(part));
     let parts: Vec<String> = expected.iter().map(line).collect();
     assert_eq!((parts[0].as_str(), parts[4].as_str()), ("R 0 7", "R 1 317"));
-    let pieces = "P 0 0 1 0 0 0 0\nP 0 0 2 0 0 0 0\nP 1 1 0 600 0 0 0\n";
+    let pieces = "P 0 0 1 0 0 0 0 0\nP 0 0 2 0 0 0 0 0\nP 1 1 0 600 0 0 0 0\n";
     let title = "11.1 Slices that do not fit";
     expect(title, &[pieces, &parts.join("\n")].concat());
 }

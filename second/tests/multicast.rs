@@ -71,8 +71,13 @@ fn answer_of(call: &mut Call) -> MulticastAnswer {
     multicast(&call.receiver, tables, call.group, &call.packet)
 }
 
-/// The number; a refusal gives nothing more and changes no entry.
-fn number_of(mut call: Call) -> u8 {
+/// The number; a refusal gives nothing more, but for the age of a repeat, and changes
+/// no entry.
+fn number_of(call: Call) -> u8 {
+    number_and_age(call).0
+}
+
+fn number_and_age(mut call: Call) -> (u8, u32) {
     let before = call.clone();
     let answer = answer_of(&mut call);
     if answer.number != 1 {
@@ -83,7 +88,10 @@ fn number_of(mut call: Call) -> u8 {
         assert_eq!((answer.verdict.number(), answer.skipped), (0, 0));
         assert_eq!(answer.message, Where::Nothing);
     }
-    answer.number
+    if answer.number != 17 {
+        assert_eq!(answer.age, 0, "{}", answer.number);
+    }
+    (answer.number, answer.age)
 }
 
 fn number_with(change: &dyn Fn(&mut Call)) -> u8 {
@@ -108,7 +116,7 @@ fn make_hold(call: &mut Call, row: u8) {
         25 => call.group = 6,
         15 => call.packet[53] = 1,
         16 => call.packet[56] = 2,
-        17 => call.numbers[8] = 100,
+        17 => call.numbers[8] = 103,
         _ => panic!("no row {row} in the multicast call"),
     }
 }
@@ -479,10 +487,7 @@ fn row_16_unless_one_piece_and_p_is_n() {
 /// Number, verdict and skipped of a message with this version and number, where the
 /// packet's entry is this one; and the entry afterwards.
 fn checked(n1: u16, last: (u32, u32), packet: (u32, u32)) -> ((u8, u8, u32), (u32, u32)) {
-    let mut call = good_call();
-    call.receiver.n1 = n1;
-    (call.versions[8], call.numbers[8]) = last;
-    call.packet = one_piece(10).numbered(packet.0, packet.1).pdu(1);
+    let mut call = call_with(n1, last, packet);
     let a = answer_of(&mut call);
     let entry = (call.versions[8], call.numbers[8]);
     ((a.number, a.verdict.number(), a.skipped), entry)
@@ -533,12 +538,29 @@ fn repeats_and_unchecked_leave_the_entry() {
     }
 }
 
+/// The call of a packet with this version and number, whose entry is this one.
+fn call_with(n1: u16, last: (u32, u32), packet: (u32, u32)) -> Call {
+    let mut call = good_call();
+    call.receiver.n1 = n1;
+    (call.versions[8], call.numbers[8]) = last;
+    call.packet = one_piece(10).numbered(packet.0, packet.1).pdu(1);
+    call
+}
+
+/// With 17 its age, how far the packet's number lies behind the entry's; otherwise 0.
 #[test]
 fn n1_is_that_of_the_state() {
-    let number = |n1: u16, seq: u32| checked(n1, (5, 2_000), (5, seq)).0 .0;
-    assert_eq!((number(1, 2_000), number(1, 1_999)), (17, 1));
-    assert_eq!((number(2, 1_999), number(2, 1_998)), (17, 1));
-    assert_eq!((number(1_024, 977), number(1_024, 976)), (17, 1));
+    let number = |n1: u16, seq: u32| number_and_age(call_with(n1, (5, 2_000), (5, seq)));
+    assert_eq!((number(1, 2_000), number(1, 1_999)), ((17, 0), (1, 0)));
+    assert_eq!((number(2, 1_999), number(2, 1_998)), ((17, 1), (1, 0)));
+    assert_eq!(
+        (number(1_024, 1_999), number(1_024, 1_744)),
+        ((17, 1), (17, 256))
+    );
+    assert_eq!(
+        (number(1_024, 977), number(1_024, 976)),
+        ((17, 1_023), (1, 0))
+    );
 }
 
 // ---- entries
@@ -601,22 +623,23 @@ impl Throws {
     }
 }
 
-/// The four rules by steps: a repeat is one of the N1 numbers that end with R.
-fn by_steps(last: (u32, u32), (version, seq): (u32, u32), n1: u32) -> u8 {
+/// The four rules by steps: a repeat is one of the N1 numbers that end with R. The
+/// verdict, and with 0 how many steps back it was found.
+fn by_steps(last: (u32, u32), (version, seq): (u32, u32), n1: u32) -> (u8, u32) {
     let back = |steps: u32| (1..=steps).fold(last.1, |at, _| if at == 1 { M } else { at - 1 });
+    let found = || (0..n1).find(|steps| back(*steps) == seq);
     match last {
-        _ if (version, seq) == (0, 1) => 5,
-        (0, _) => 1,
-        (rv, _) if rv != version => 3,
-        _ if (0..n1).any(|steps| back(steps) == seq) => 0,
-        (_, r) if (r == M && seq == 1) || (r < M && seq == r + 1) => 2,
-        _ => 4,
+        _ if (version, seq) == (0, 1) => (5, 0),
+        (0, _) => (1, 0),
+        (rv, _) if rv != version => (3, 0),
+        (_, r) if (r == M && seq == 1) || (r < M && seq == r + 1) => (2, 0),
+        _ => found().map_or((4, 0), |steps| (0, steps)),
     }
 }
 
-/// Many calls to few entries: each verdict is that of the last message that was
-/// delivered to the same sender, group and priority, by a record that knows no
-/// tables.
+/// Many calls to few entries: each verdict, and each age of a repeat, is that of the
+/// last message that was delivered to the same sender, group and priority, by a record
+/// that knows no tables.
 #[test]
 fn verdicts_are_those_of_the_last_delivery_to_the_same() {
     let senders = [(1, 7), (2, 9), (1, 9)];
@@ -626,7 +649,7 @@ fn verdicts_are_those_of_the_last_delivery_to_the_same() {
     (call.versions, call.numbers) = (vec![0; 72], vec![0; 72]);
     let mut record: BTreeMap<(usize, u8, u8), (u32, u32)> = BTreeMap::new();
     let mut throws = Throws(7);
-    let mut seen = [0; 6];
+    let (mut seen, mut ages) = ([0; 6], [0; 3]);
     for _ in 0..20_000 {
         let sender = throws.below(3) as usize;
         let group = [9, 200, 1][throws.below(3) as usize];
@@ -640,16 +663,18 @@ fn verdicts_are_those_of_the_last_delivery_to_the_same() {
         };
         (call.group, call.packet) = (group, sent.pdu(1));
         let last = record.entry((sender, group, pri)).or_default();
-        let expected = by_steps(*last, (version, seq), 3);
+        let (expected, age) = by_steps(*last, (version, seq), 3);
         let answer = answer_of(&mut call);
-        assert_eq!(answer.verdict.number(), expected);
+        assert_eq!((answer.verdict.number(), answer.age), (expected, age));
         assert_eq!(answer.number, if expected == 0 { 17 } else { 1 });
         if ![0, 5].contains(&expected) {
             *last = (version, seq);
         }
         seen[usize::from(expected)] += 1;
+        ages[age as usize] += u32::from(expected == 0);
     }
     assert!(seen.iter().all(|count| *count > 100), "{seen:?}");
+    assert!(ages.iter().all(|count| *count > 100), "{ages:?}");
 }
 
 // ---- beside peer-to-peer messages

@@ -1,6 +1,6 @@
-//! Section 14 of the edges: what each row of `docs/EDGES.md` must answer by 01 and
-//! 02, written by hand. Sums and tables are made anew here, apart from the code
-//! under test.
+//! Sections 14 and 15.7 to 15.9 of the edges: what each row of `docs/EDGES.md` must
+//! answer by 01 and 02, written by hand. Sums and tables are made anew here, apart from
+//! the code under test.
 
 use std::sync::OnceLock;
 
@@ -23,8 +23,8 @@ fn section(title: &str) -> Vec<&'static str> {
 fn without_sums(line: &str) -> String {
     let words: Vec<&str> = line.split(' ').collect();
     match words[0] {
-        "P" => words[..8].join(" "),
-        "M" => words[..5].join(" "),
+        "P" => words[..9].join(" "),
+        "M" => words[..6].join(" "),
         _ => line.to_string(),
     }
 }
@@ -40,8 +40,8 @@ fn expect(title: &str, expected: &str) {
 /// first one of 10 octets.
 fn fresh(number: u8) -> String {
     match number {
-        1 => "M 1 1 10 0\n".into(),
-        _ => format!("M {number} 0 0 0\n"),
+        1 => "M 1 1 10 0 0\n".into(),
+        _ => format!("M {number} 0 0 0 0\n"),
     }
 }
 
@@ -112,11 +112,11 @@ fn what_setup_returns_of_groups() {
 }
 
 /// What the five calls answer on a damaged state.
-const REFUSED: &str = "P 9 0 0 0 0 0 0\nA 9\nC 9 0 0\nQ 9 0 0 0 0\nM 9 0 0 0\n";
+const REFUSED: &str = "P 9 0 0 0 0 0 0 0\nA 9\nC 9 0 0\nQ 9 0 0 0 0\nM 9 0 0 0 0\n";
 /// Piece 2 is held, piece 1 joins it, piece 3 is missing.
-const PASSES: &str = "P 0 0 2 0 0 0 0\nA 0\nC 0 0 0\nQ 0 1 0 3 3\n";
+const PASSES: &str = "P 0 0 2 0 0 0 0 0\nA 0\nC 0 0 0\nQ 0 1 0 3 3\n";
 /// The empty state: nobody is registered.
-const NOBODY: &str = "P 14 0 0 0 0 0 0\nA 14\nC 0 0 0\nQ 0 0 0 0 0\nM 14 0 0 0\n";
+const NOBODY: &str = "P 14 0 0 0 0 0 0 0\nA 14\nC 0 0 0\nQ 0 0 0 0 0\nM 14 0 0 0 0\n";
 
 #[test]
 fn groups_of_a_damaged_state() {
@@ -196,9 +196,9 @@ fn row_of_entries(place: usize, (version, number, wrong): (u32, u32, bool)) -> S
     let own = (8, 5, 100);
     if place == 8 {
         let verdict = match version {
-            0 => "M 1 1 10 0\n",
-            5 => "M 1 4 10 99\n",
-            _ => "M 1 3 10 0\n",
+            0 => "M 1 1 10 0 0\n",
+            5 => "M 1 4 10 99 0\n",
+            _ => "M 1 3 10 0 0\n",
         };
         return verdict.to_string() + &table(&[own]);
     }
@@ -215,7 +215,7 @@ fn entries_of_the_tables() {
         expected.extend(PAIRS.map(|pair| row_of_entries(place, pair)));
     }
     expected.extend([1, 1, 1, 26, 26, 1].map(fresh));
-    expected += &[fresh(1), fresh(26), "M 1 2 10 0\n".into(), fresh(26)].concat();
+    expected += &[fresh(1), fresh(26), "M 1 2 10 0 0\n".into(), fresh(26)].concat();
     expected += &table(&[(0, 5, 2_147_483_648), (8, 5, 101)]);
     expected += &["S 0\n", &fresh(1), &table(&[(8, 5, 102)])].concat();
     expect("14.7 Entries of the tables", &expected);
@@ -255,7 +255,7 @@ fn lengths_of_a_multicast_pdu() {
         (12, 0),
     ];
     let line = |(number, n): (u8, usize)| match number {
-        1 => format!("M 1 1 {n} 0\n"),
+        1 => format!("M 1 1 {n} 0 0\n"),
         _ => fresh(number),
     };
     let unlike_bsize = [(12, 0); 11];
@@ -299,30 +299,31 @@ fn the_group_given() {
 fn one_piece_to_a_group() {
     let mut lines = vec![fresh(16); 29];
     lines[0] = fresh(1);
-    lines[18] = "M 1 1 0 0\n".into();
-    lines[23] = "M 1 1 1408 0\n".into();
+    lines[18] = "M 1 1 0 0 0\n".into();
+    lines[23] = "M 1 1 1408 0 0\n".into();
     expect("14.14 One piece to a group", &lines.concat());
 }
 
 // ---- the check
 
-/// number, verdict and skipped, and the entry behind it, up to 4.1's first W.
+/// number, verdict, length, skipped and age, and the entry behind it, up to 4.1's
+/// first W.
 const CHECKED: [(&str, u32, u32); 15] = [
-    ("1 5 10 0", 0, 0),
-    ("1 1 10 0", 5, 100),
-    ("1 2 10 0", 5, 101),
-    ("17 0 0 0", 5, 101),
-    ("17 0 0 0", 5, 101),
-    ("1 4 10 2147483630", 5, 85),
-    ("1 4 10 2", 5, 88),
-    ("1 3 10 0", 6, 88),
-    ("1 4 10 2147483558", 6, 2_147_483_647),
-    ("17 0 0 0", 6, 2_147_483_647),
-    ("1 2 10 0", 6, 1),
-    ("1 4 10 1", 6, 3),
-    ("17 0 0 0", 6, 3),
-    ("1 4 10 2147483630", 6, 2_147_483_634),
-    ("1 5 10 0", 6, 2_147_483_634),
+    ("1 5 10 0 0", 0, 0),
+    ("1 1 10 0 0", 5, 100),
+    ("1 2 10 0 0", 5, 101),
+    ("17 0 0 0 0", 5, 101),
+    ("17 0 0 0 15", 5, 101),
+    ("1 4 10 2147483630 0", 5, 85),
+    ("1 4 10 2 0", 5, 88),
+    ("1 3 10 0 0", 6, 88),
+    ("1 4 10 2147483558 0", 6, 2_147_483_647),
+    ("17 0 0 0 0", 6, 2_147_483_647),
+    ("1 2 10 0 0", 6, 1),
+    ("1 4 10 1 0", 6, 3),
+    ("17 0 0 0 15", 6, 3),
+    ("1 4 10 2147483630 0", 6, 2_147_483_634),
+    ("1 5 10 0 0", 6, 2_147_483_634),
 ];
 
 #[test]
@@ -334,10 +335,11 @@ fn the_number_check_of_a_group() {
         expected += &format!("M {answer}\n{}", table(in_use));
     }
     // (0, 2) is a restart, then RV is 0; (0, 1) leaves it.
-    expected += "M 1 3 10 0\nM 1 1 10 0\nM 1 1 10 0\nM 1 5 10 0\n";
+    expected += "M 1 3 10 0 0\nM 1 1 10 0 0\nM 1 1 10 0 0\nM 1 5 10 0 0\n";
     expected += &table(&[(8, 0, 5)]);
-    expected += "M 1 1 10 0\nM 1 2 10 0\n";
-    expected += "M 1 3 10 0\nM 1 3 10 0\nM 1 3 10 0\nM 1 1 10 0\nM 1 5 10 0\nM 17 0 0 0\n";
+    expected += "M 1 1 10 0 0\nM 1 2 10 0 0\n";
+    expected += "M 1 3 10 0 0\nM 1 3 10 0 0\nM 1 3 10 0 0\n";
+    expected += "M 1 1 10 0 0\nM 1 5 10 0 0\nM 17 0 0 0 0\n";
     expected += &table(&[(8, 5, 7)]);
     expect("14.15 Number check of a group, N1 16", &expected);
 }
@@ -347,19 +349,19 @@ fn the_number_check_of_a_group() {
 fn the_number_check_of_a_group_with_other_n1() {
     let expected = "\
 S 0
-M 1 1 10 0
-M 17 0 0 0
-M 1 4 10 2147483645
-M 1 2 10 0
+M 1 1 10 0 0
+M 17 0 0 0 0
+M 1 4 10 2147483645 0
+M 1 2 10 0 0
 S 0
-M 1 1 10 0
-M 17 0 0 0
-M 1 4 10 2147482622
-M 17 0 0 0
-M 1 4 10 2147482622
-M 17 0 0 0
-M 1 4 10 2147483644
-M 17 0 0 0
+M 1 1 10 0 0
+M 17 0 0 0 1023
+M 1 4 10 2147482622 0
+M 17 0 0 0 1023
+M 1 4 10 2147482622 0
+M 17 0 0 0 1
+M 1 4 10 2147483644 0
+M 17 0 0 0 1
 E 1
 e 8 5 2147483597";
     expect("14.16 Number check of a group, N1 1 and 1024", expected);
@@ -404,7 +406,7 @@ fn sixteen_senders_and_eight_groups() {
         in_use(100),
         fresh(17).repeat(10),
         in_use(100),
-        "M 1 2 10 0\n".repeat(10),
+        "M 1 2 10 0 0\n".repeat(10),
         in_use(101),
     ];
     expect("14.18 Sixteen senders and eight groups", &expected.concat());
@@ -416,7 +418,7 @@ fn every_entry_of_two_senders_and_three_groups() {
         let entries: Vec<_> = (0..48).map(|k| (k as usize, 5, first + k)).collect();
         table(&entries)
     };
-    let lines = |verdict: u8, k: u32| format!("M 1 {verdict} {k} 0\n");
+    let lines = |verdict: u8, k: u32| format!("M 1 {verdict} {k} 0 0\n");
     let expected = [
         (0..48).map(|k| lines(1, k)).collect(),
         in_use(100),
@@ -431,20 +433,20 @@ fn every_entry_of_two_senders_and_three_groups() {
 #[test]
 fn each_entry_apart() {
     let gone_on = "\
-M 1 4 10 29
-M 1 2 10 0
-M 1 4 10 2147483617
-M 1 2 10 0
-M 1 3 10 0
-M 1 2 10 0
-M 17 0 0 0
-M 1 2 10 0
-M 1 5 10 0
-M 1 1 10 0
-M 1 5 10 0
-M 1 2 10 0
-M 1 4 10 14
-M 1 1 10 0
+M 1 4 10 29 0
+M 1 2 10 0 0
+M 1 4 10 2147483617 0
+M 1 2 10 0 0
+M 1 3 10 0 0
+M 1 2 10 0 0
+M 17 0 0 0 0
+M 1 2 10 0 0
+M 1 5 10 0 0
+M 1 1 10 0 0
+M 1 5 10 0 0
+M 1 2 10 0 0
+M 1 4 10 14 0
+M 1 1 10 0 0
 ";
     let in_use = [
         (0, 6, 1),
@@ -483,14 +485,14 @@ fn state(clock: u32, first: &str) -> String {
 fn same_version_and_number() -> String {
     let opened = state(0, "0 0 1 5 100 1 600 3 256 1 1 0 0 0 0");
     [
-        "P 0 0 1 0 0 0 0\n",
+        "P 0 0 1 0 0 0 0 0\n",
         &opened,
-        "M 1 1 10 0\n",
+        "M 1 1 10 0 0\n",
         &opened,
         &table(&[(8, 5, 100)]),
-        "P 0 0 2 0 0 0 0\nM 17 0 0 0\nH 2\nQ 0 1 0 2 2\n",
-        "P 1 1 0 600 0 0 0\nP 17 0 0 0 0 0 0\nM 1 2 10 0\n",
-        "P 1 2 0 10 0 0 0\nM 1 2 10 0\n",
+        "P 0 0 2 0 0 0 0 0\nM 17 0 0 0 0\nH 2\nQ 0 1 0 2 2\n",
+        "P 1 1 0 600 0 0 0 0\nP 17 0 0 0 0 0 0 0\nM 1 2 10 0 0\n",
+        "P 1 2 0 10 0 0 0 0\nM 1 2 10 0 0\n",
         &state(0, "5 101 0 0 0 0 0 0 0 0 0 0 0 0 0"),
         &table(&[(8, 5, 102)]),
     ]
@@ -501,11 +503,11 @@ fn same_version_and_number() -> String {
 fn newer_and_older() -> String {
     let tables = table(&[(8, 6, 1), (32, 5, 100)]);
     [
-        "P 0 0 1 0 0 0 0\nM 1 4 10 8\nM 1 3 10 0\nM 1 5 10 0\nM 1 1 1408 0\n",
-        "M 16 0 0 0\nM 25 0 0 0\nH 1\n",
+        "P 0 0 1 0 0 0 0 0\nM 1 4 10 8 0\nM 1 3 10 0 0\nM 1 5 10 0 0\nM 1 1 1408 0 0\n",
+        "M 16 0 0 0 0\nM 25 0 0 0 0\nH 1\n",
         &state(0, "5 101 1 5 110 1 600 3 256 2 1 0 0 0 0"),
         &tables,
-        "P 0 0 2 0 0 0 0\nM 17 0 0 0\nP 1 4 0 600 8 0 0\n",
+        "P 0 0 2 0 0 0 0 0\nM 17 0 0 0 0\nP 1 4 0 600 8 0 0 0\n",
         &state(0, "5 110 0 0 0 0 0 0 0 0 0 0 0 0 0"),
         &tables,
     ]
@@ -516,8 +518,8 @@ fn newer_and_older() -> String {
 /// tables'.
 fn alive_and_clock() -> String {
     [
-        "A 0\nP 0 0 1 0 0 0 0\nM 1 2 10 0\nC 0 0 1\nM 1 2 10 0\nC 0 1 0\nM 1 2 10 0\nA 0\n",
-        "M 1 2 10 0\n",
+        "A 0\nP 0 0 1 0 0 0 0 0\nM 1 2 10 0 0\nC 0 0 1\nM 1 2 10 0 0\nC 0 1 0\nM 1 2 10 0 0\nA 0\n",
+        "M 1 2 10 0 0\n",
         &state(15_000, "5 110 0 0 0 0 0 0 0 0 0 0 0 0 0"),
         &table(&[(8, 6, 5), (32, 5, 100)]),
     ]
@@ -527,10 +529,10 @@ fn alive_and_clock() -> String {
 /// Behind 110 number 1596 skips 1485; behind 1597 number 1608 skips 10.
 fn long_messages() -> String {
     [
-        "P 1 4 0 1396 1485 0 0\nM 1 1 1396 0\n",
-        "P 12 0 0 0 0 0 0\nM 1 2 1397 0\n",
-        "P 12 0 0 0 0 0 0\nM 1 4 1408 10\n",
-        "P 0 0 1 0 0 0 0\nM 16 0 0 0\n",
+        "P 1 4 0 1396 1485 0 0 0\nM 1 1 1396 0 0\n",
+        "P 12 0 0 0 0 0 0 0\nM 1 2 1397 0 0\n",
+        "P 12 0 0 0 0 0 0 0\nM 1 4 1408 10 0\n",
+        "P 0 0 1 0 0 0 0 0\nM 16 0 0 0 0\n",
         &state(15_000, "5 1596 1 7 1 1 600 3 256 1 1 15000 0 0 0"),
         &table(&[(0, 5, 1_608), (8, 6, 5), (32, 5, 100)]),
     ]
@@ -546,6 +548,58 @@ fn beside_peer_to_peer_messages() {
         long_messages(),
     ];
     expect("14.21 Beside peer-to-peer messages", &parts.concat());
+}
+
+// ---- ages
+
+/// A repeat of this age.
+fn repeat(age: u32) -> String {
+    format!("M 17 0 0 0 {age}\n")
+}
+
+/// 10 octets that are delivered with this verdict and skipped count.
+fn delivered(verdict: u8, skipped: u32) -> String {
+    format!("M 1 {verdict} 10 {skipped} 0\n")
+}
+
+/// As in 15.1: 84 - 100 - 1 and -13 - 3 - 1 are -17.
+#[test]
+fn ages_of_repeats_to_a_group() {
+    let parts = [
+        delivered(1, 0),
+        [0, 1, 8, 15].map(repeat).concat(),
+        delivered(4, 2_147_483_630),
+        repeat(0),
+        delivered(3, 0),
+        [2, 3, 15].map(repeat).concat(),
+        delivered(4, 2_147_483_630),
+    ];
+    expect("15.7 Ages of a repeat to a group", &parts.concat());
+}
+
+/// The numbers of 14.8's a to j, 9, and then 17 with its age: 103 to 100.
+#[test]
+fn other_numbers_beside_a_repeat_to_a_group() {
+    let parts = [WRONG[..10].iter().copied().map(fresh).collect(), fresh(9)];
+    let title = "15.8 Other numbers beside a repeat to a group";
+    expect(title, &[&parts.concat(), &repeat(3)[..]].concat());
+}
+
+/// Last are 100 to 103 in four entries and 104 of the messages to this node alone.
+#[test]
+fn ages_of_each_entry() {
+    let parts = [
+        delivered(1, 0).repeat(4),
+        "P 1 1 0 10 0 0 0 0\n".into(),
+        [5, 6, 7, 8].map(repeat).concat(),
+        "P 17 0 0 0 0 9 0 0\n".into(),
+        delivered(1, 0),
+        delivered(5, 0),
+        repeat(5),
+        delivered(3, 0),
+        delivered(1, 0),
+    ];
+    expect("15.9 Each entry's own", &parts.concat());
 }
 
 // ---- the sums
@@ -665,7 +719,7 @@ fn sums_of_every_multicast_call() {
             'M' => {
                 let words: Vec<&str> = lines.next().expect("a line").split(' ').collect();
                 let expected = kept.sums(&contents, words[1], words[2]);
-                assert_eq!(words[5..].join(" "), expected, "M line {seen}");
+                assert_eq!(words[6..].join(" "), expected, "M line {seen}");
                 seen += 1;
             }
             _ => (),

@@ -9,6 +9,7 @@ use second::text::capture_of;
 
 const LISTING: &str = include_str!("../../examples/listing.txt");
 const NIGHT: &str = include_str!("../../examples/night.txt");
+const ROUND: &str = include_str!("../../examples/round.txt");
 
 /// 01, "Program and one full listing".
 const LISTING_LINES: &str = "S 0
@@ -69,6 +70,54 @@ C 0 0 0
 #[test]
 fn a_night() {
     assert_eq!(run(&capture_of(NIGHT).unwrap()), NIGHT_LINES);
+}
+
+/// Behind M - 1 number 1 is a gap of one, M; and M, behind 1, is one back.
+const ROUND_LINES: &str = "\
+S 0
+P 1 1 0 100
+P 0 0 1 0
+P 0 0 1 0
+P 18 0 0 0
+P 1 4 0 300
+P 17 0 0 1
+P 1 2 0 100
+";
+
+#[test]
+fn a_desk_that_came_round() {
+    assert_eq!(run(&capture_of(ROUND).unwrap()), ROUND_LINES);
+}
+
+/// "`P 17 0 0 d`": with 17 alone the length is an age. N1 is 16; 5 is delivered behind
+/// M - 10 as a gap, 15 back lies M - 10, and 16 back M - 11.
+#[test]
+fn the_age_stands_in_the_length() {
+    let whole = |seq: u32| format!("pdu field=1 node=7 version=5 seq={seq} n=10\n");
+    let piece =
+        |seq: u32, p: u8| format!("pdu field=1 node=7 version=5 seq={seq} n=300 u=256 piece={p}\n");
+    let text = [
+        "setup online n1=16 senders=1:7\n".to_string(),
+        whole(2_147_483_637),
+        whole(5),
+        whole(5),
+        whole(4),
+        piece(2_147_483_647, 2),
+        whole(2_147_483_637),
+        whole(4).replace("n=10", "n=10 mode=1"),
+        whole(4).replace("n=10", "n=10 cbn=2"),
+        piece(9, 1),
+        whole(1),
+        whole(8),
+        piece(9, 1),
+        whole(2_147_483_636),
+        piece(9, 2),
+        whole(2_147_483_641),
+    ];
+    let expected = "S 0\nP 1 1 0 10\nP 1 4 0 10\nP 17 0 0 0\nP 17 0 0 1\nP 17 0 0 5\n\
+                    P 17 0 0 15\nP 15 0 0 0\nP 16 0 0 0\nP 0 0 1 0\nP 17 0 0 4\nP 18 0 0 0\n\
+                    P 20 0 0 0\nP 18 0 0 0\nP 1 4 0 300\nP 17 0 0 15\n";
+    assert_eq!(run(&capture_of(&text.concat()).unwrap()), expected);
 }
 
 /// Runs the program with these words and this input.
@@ -149,8 +198,8 @@ fn tally_of_calls(calls: &[u8], lines: &[u8]) -> Output {
     second(&["tally", name], lines)
 }
 
-/// 01's and 02's numbers, each where it can be given, each `next` of a field, and
-/// numbers that came round.
+/// 01's and 02's numbers, each where it can be given, each `next` of a field, numbers
+/// that came round, and repeats of age 0, between, and N1 - 1.
 #[test]
 fn edges_then_tally_reach_every_number() {
     let edges = second(&["edges"], b"");
@@ -169,6 +218,8 @@ fn edges_then_tally_reach_every_number() {
         ("M", &[1, 9, 12, 13, 14, 15, 16, 17, 25, 26]),
         ("MV", &[0, 1, 2, 3, 4, 5]),
         ("N", &[0, 1, 18]),
+        ("D", &[0, 1, 2]),
+        ("MD", &[0, 1, 2]),
         ("A", &[0, 9, 12, 13, 14, 22, 24]),
         ("C", &[0, 9, 21]),
         ("Q", &[0, 9]),

@@ -56,14 +56,17 @@ fn the_fields_alone_give_the_same_lines() {
     }
 }
 
-/// Every answer of each kind of line, every verdict, and numbers that came round.
-const REACHED: [(&str, &[u8]); 12] = [
+/// Every answer of each kind of line, every verdict, numbers that came round, and
+/// repeats of age 0, between, and N1 - 1.
+const REACHED: [(&str, &[u8]); 14] = [
     ("M", &[1, 9, 12, 13, 14, 15, 16, 17, 25, 26]),
     ("MV", &[0, 1, 2, 3, 4, 5]),
     ("S", &[0, 10]),
     ("P", &[0, 1, 9, 11, 12, 13, 14, 15, 16, 17, 18, 19, 20]),
     ("V", &[0, 1, 2, 3, 4, 5]),
     ("N", &[0, 1, 18]),
+    ("D", &[0, 1, 2]),
+    ("MD", &[0, 1, 2]),
     ("A", &[0, 9, 12, 13, 14, 22, 24]),
     ("C", &[0, 9, 21]),
     ("Q", &[0, 9]),

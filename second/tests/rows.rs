@@ -53,7 +53,7 @@ fn make_hold(call: &mut Call, row: u8) {
         14 => call.packet[11] = 8,
         15 => call.packet[53] = 1,
         16 => lay(&mut call.packet, 4, &16_449u32.to_be_bytes()),
-        17 => sender.last_number = 103,
+        17 => sender.last_number = 106,
         18 => sender.message.seq = 104,
         19 => lay(&mut call.packet, 40, &2u16.to_be_bytes()),
         20 => (sender.message.map, sender.message.held) = (0b0011, 2),
@@ -67,8 +67,13 @@ const ROWS: [u8; 11] = [9, 11, 12, 13, 14, 15, 16, 17, 18, 19, 20];
 /// message has either a newer or the same number.
 const NEVER_TOGETHER: [(u8, u8); 6] = [(14, 17), (14, 18), (14, 19), (14, 20), (18, 19), (18, 20)];
 
-/// Makes the call; a refusal gives nothing more and alters nothing.
-fn number_of(mut call: Call) -> u8 {
+/// Makes the call; a refusal gives nothing more, but for the age of a repeat, and
+/// alters nothing.
+fn number_of(call: Call) -> u8 {
+    number_and_age(call).0
+}
+
+fn number_and_age(mut call: Call) -> (u8, u32) {
     let before = call.clone();
     let answer = message(&mut call.receiver, &mut call.storage, &call.packet);
     if answer.number > 1 {
@@ -78,13 +83,20 @@ fn number_of(mut call: Call) -> u8 {
         assert_eq!((answer.held, answer.message), (0, Where::Nothing));
         assert_eq!((answer.dropped_version, answer.dropped_number), (0, 0));
     }
-    answer.number
+    if answer.number != 17 {
+        assert_eq!(answer.age, 0, "{}", answer.number);
+    }
+    (answer.number, answer.age)
 }
 
 fn number_with(change: &dyn Fn(&mut Call)) -> u8 {
+    with_age(change).0
+}
+
+fn with_age(change: &dyn Fn(&mut Call)) -> (u8, u32) {
     let mut call = good_call();
     change(&mut call);
-    number_of(call)
+    number_and_age(call)
 }
 
 #[test]
@@ -109,11 +121,13 @@ fn of_two_rows_the_lower_number_is_given() {
             }
             pairs += 1;
             for (one, other) in [(*low, *high), (*high, *low)] {
-                let number = number_with(&|call| {
+                let (number, age) = with_age(&|call| {
                     make_hold(call, one);
                     make_hold(call, other);
                 });
                 assert_eq!(number, *low, "rows {low} and {high}");
+                // 17 before 18, 19 and 20 has its age, R 106 to 103.
+                assert_eq!(age, if *low == 17 { 3 } else { 0 }, "{low} and {high}");
             }
         }
     }
@@ -328,9 +342,10 @@ fn row_16_each_kind_of_cut() {
 #[test]
 fn row_17_at_the_windows_edge() {
     // The packet's SEQ is 103 and N1 is 16: d is R - 103.
-    let last = |r: u32| number_with(&|call| call.receiver.senders[0].last_number = r);
-    assert_eq!((last(103), last(118)), (17, 17));
-    assert_eq!((last(102), last(119)), (0, 0));
+    let last = |r: u32| with_age(&|call| call.receiver.senders[0].last_number = r);
+    assert_eq!((last(103), last(104)), ((17, 0), (17, 1)));
+    assert_eq!((last(117), last(118)), ((17, 14), (17, 15)));
+    assert_eq!((last(102), last(119)), ((0, 0), (0, 0)));
 }
 
 #[test]

@@ -2,9 +2,10 @@
 -- call, but the cutter's, which stands beside it in `cut`.
 use Prim.Native.Nat.{ℕ, _≤_}
 use mathlib.Core.Path.{_≡_}
-use mathlib.Core.Bool.{Bool, true, false}
+use mathlib.Core.Bool.{Bool, true, false, cond}
+use lib.Dec.{eqb}
 use Rattle.ring.specs.declared.Verdict.{Verdict}
-use Rattle.ring.specs.Check.{verdictNumber, verdictSkipped}
+use Rattle.ring.specs.Check.{verdictNumber, verdictSkipped, verdictAge}
 use Rattle.answers.specs.declared.Answer.{Answer}
 use Rattle.answers.specs.declared.Call.{Call}
 use Rattle.answers.specs.declared.Call.the-variants as call
@@ -34,21 +35,31 @@ pub record OutcomeTold : Type 0 where
   pub verdict : ℕ
   -- how many numbers were skipped
   pub skipped : ℕ
+  -- how far back a repeat lies
+  pub age : ℕ
 
 -- "Verdicts: …, 0 where nothing is delivered."
-abbrev pub notDelivered : ℕ → OutcomeTold
-notDelivered k = record { number = k; verdict = 0; skipped = 0 }
+abbrev pub notDelivered : (number age : ℕ) → OutcomeTold
+notDelivered k age = record { number = k; verdict = 0; skipped = 0; age = age }
 
 -- "1 delivered. Verdicts: 1 first, 2 next, 3 restart, 4 gap, 5 unchecked"; "gap, with (SEQ − R − 1) modulo M numbers
--- skipped"
+-- skipped". No repeat is delivered, so the age is 0.
 abbrev pub deliveredAs : Verdict → OutcomeTold
-deliveredAs v = record { number = 1; verdict = verdictNumber v; skipped = verdictSkipped v }
+deliveredAs v = record { number = 1; verdict = verdictNumber v; skipped = verdictSkipped v; age = verdictAge v }
 
 -- "0 stored …; 1 delivered", and for a refusal its number.
 abbrev pub outcomeTold : Outcome → OutcomeTold
-outcomeTold (outcome.Refused k) = notDelivered k
-outcomeTold outcome.Stored = notDelivered 0
+outcomeTold (outcome.Refused k age) = notDelivered k age
+outcomeTold outcome.Stored = notDelivered 0 0
 outcomeTold (outcome.Delivered v) = deliveredAs v
+
+-- 02, Item 6: "The receiver passes it on with refusal 17, multicast too". "In every other answer it is 0." So of what is
+-- refused only 17 needs to know what the number check says, v.
+abbrev pub ageWith : ℕ → Verdict → ℕ
+ageWith k v = cond (eqb k 17) (verdictAge v) 0
+
+abbrev pub refusal : ℕ → Verdict → Outcome
+refusal k v = outcome.Refused k (ageWith k v)
 
 -- What is delivered has a verdict.
 abbrev pub HasVerdict : OutcomeTold → Type 0
@@ -56,12 +67,12 @@ HasVerdict t = t .number ≡ 1 → 1 ≤ t .verdict
 
 -- The number of a refusal, 0 where there is none.
 abbrev pub refusedNumber : Outcome → ℕ
-refusedNumber (outcome.Refused k) = k
+refusedNumber (outcome.Refused k age) = k
 refusedNumber outcome.Stored = 0
 refusedNumber (outcome.Delivered v) = 0
 
 abbrev pub outcomeRefused : Outcome → Bool
-outcomeRefused (outcome.Refused k) = true
+outcomeRefused (outcome.Refused k age) = true
 outcomeRefused outcome.Stored = false
 outcomeRefused (outcome.Delivered v) = false
 
@@ -106,9 +117,9 @@ messageTold a = record {
 }
 
 -- "nothing more"
-abbrev pub messageRefused : ℕ → MessageTold
-messageRefused k = record {
-  outcome = notDelivered k;
+abbrev pub messageRefused : (number age : ℕ) → MessageTold
+messageRefused k age = record {
+  outcome = notDelivered k age;
   held = 0;
   droppedVersion = 0;
   droppedNumber = 0;
@@ -125,8 +136,8 @@ abbrev pub groupTold : GroupAnswer → GroupTold
 groupTold a = record { outcome = outcomeTold (a .outcome); lies = whereTold (a .lies) }
 
 -- "nothing more"
-abbrev pub groupRefused : ℕ → GroupTold
-groupRefused k = record { outcome = notDelivered k; lies = nothingHanded }
+abbrev pub groupRefused : (number age : ℕ) → GroupTold
+groupRefused k age = record { outcome = notDelivered k age; lies = nothingHanded }
 
 -- ---- setup and the alive call: "S answer", "A answer"
 
@@ -170,7 +181,7 @@ questionTold (missing.Piece i c) = record { number = 0; «open» = true; sender 
 
 -- A refusal has a refusal's number. No two such answers are told alike (ToldLaws).
 abbrev pub OutcomeTells : Outcome → Type 0
-OutcomeTells (outcome.Refused k) = leastRefusal ≤ k
+OutcomeTells (outcome.Refused k age) = leastRefusal ≤ k
 OutcomeTells outcome.Stored = Unit {0}
 OutcomeTells (outcome.Delivered v) = Unit {0}
 

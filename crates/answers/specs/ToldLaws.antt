@@ -3,12 +3,14 @@
 use Prim.Native.Nat.{ℕ}
 use mathlib.Core.Path.{_≡_, refl, sym, ap, _∙_}
 use mathlib.Core.Bool.{cond}
+use mathlib.Core.Logic.{_≢_, ⊎-elim}
 use native.Mathlib.Omega.{arith}
 use lib.Dec.{eqb}
 use borrow.Author.Tests.{ne-eqb}
+use Rattle.octets.specs.Split.{eq-or-ne}
 use Rattle.ring.specs.declared.Verdict.{Verdict}
 use Rattle.ring.specs.declared.Verdict.the-variants.{Unchecked, First, Restart, Repeat, Next, Gap}
-use Rattle.ring.specs.Check.{verdictNumber, verdictSkipped}
+use Rattle.ring.specs.Check.{verdictNumber, verdictSkipped, verdictAge}
 use Rattle.state.specs.declared.Receiver.{Receiver}
 use Rattle.answers.specs.declared.Answer.{Answer}
 use Rattle.answers.specs.declared.Call.{Call}
@@ -20,12 +22,12 @@ use Rattle.answers.specs.declared.Outcome.{Outcome}
 use Rattle.answers.specs.declared.Outcome.the-variants as outcome
 use Rattle.answers.specs.declared.Where.{Where}
 use Rattle.answers.specs.declared.Where.the-variants as lies
-use Rattle.answers.specs.Told.{RefusedAs, OutcomeTold, outcomeTold, WhereTold, whereTold, MessageTold, messageTold, GroupTold, groupTold, callNumber, QuestionTold, questionTold, OutcomeTells, CallTells, MissingTells}
+use Rattle.answers.specs.Told.{RefusedAs, OutcomeTold, outcomeTold, ageWith, refusal, WhereTold, whereTold, MessageTold, messageTold, GroupTold, groupTold, callNumber, QuestionTold, questionTold, OutcomeTells, CallTells, MissingTells}
 
 -- ---- a refusal's number is told by no other case
 
-pub refused-outcome : (o : Outcome) (k : ℕ) → RefusedAs (outcomeTold o .number) k → o ≡ outcome.Refused k
-refused-outcome (outcome.Refused j) k r = ap outcome.Refused (r .0)
+pub refused-outcome : (o : Outcome) (k : ℕ) → RefusedAs (outcomeTold o .number) k → o ≡ outcome.Refused k (outcomeTold o .age)
+refused-outcome (outcome.Refused j age) k r = ap (λ (i : ℕ). outcome.Refused i age) (r .0)
 refused-outcome outcome.Stored k r = absurd (omega (arith, r .0, r .1))
 refused-outcome (outcome.Delivered v) k r = absurd (omega (arith, r .0, r .1))
 
@@ -38,29 +40,39 @@ refused-missing (missing.Refused j) k r = ap missing.Refused (r .0)
 refused-missing missing.NoneOpen k r = absurd (omega (arith, r .0, r .1))
 refused-missing (missing.Piece i c) k r = absurd (omega (arith, r .0, r .1))
 
+-- ---- how old a repeat was
+
+-- Of a refusal with another number than 17 what the check says is not asked,
+pub refusal-plain : (k : ℕ) (v : Verdict) → k ≢ 17 → refusal k v ≡ outcome.Refused k 0
+refusal-plain k v other = rw (ne-eqb k 17 other)
+
+-- so two have one age if the check says the same of them where 17 is given.
+pub age-same : (k : ℕ) (v u : Verdict) → (k ≡ 17 → v ≡ u) → ageWith k v ≡ ageWith k u
+age-same k v u same = ⊎-elim (λ (e : k ≡ 17). ap (ageWith k) (same e)) (λ (n : k ≢ 17). rw (ne-eqb k 17 n)) (eq-or-ne k 17)
+
 -- ---- the outcome, read back
 
-verdictFrom : ℕ → ℕ → Verdict
-verdictFrom n k =
-    cond (eqb n 1) First (cond (eqb n 2) Next (cond (eqb n 3) Restart (cond (eqb n 4) (Gap k) (cond (eqb n 5) Unchecked Repeat))))
+verdictFrom : (number skipped age : ℕ) → Verdict
+verdictFrom n k d =
+    cond (eqb n 1) First (cond (eqb n 2) Next (cond (eqb n 3) Restart (cond (eqb n 4) (Gap k) (cond (eqb n 5) Unchecked (Repeat d)))))
 
-verdict-back : (v : Verdict) → verdictFrom (verdictNumber v) (verdictSkipped v) ≡ v
+verdict-back : (v : Verdict) → verdictFrom (verdictNumber v) (verdictSkipped v) (verdictAge v) ≡ v
 unfolding verdictFrom
 verdict-back Unchecked = refl
 verdict-back First = refl
 verdict-back Restart = refl
-verdict-back Repeat = refl
+verdict-back (Repeat d) = refl
 verdict-back Next = refl
 verdict-back (Gap k) = refl
 
 outcomeFrom : OutcomeTold → Outcome
 outcomeFrom t =
     cond (eqb (t .number) 0) outcome.Stored
-    (cond (eqb (t .number) 1) (outcome.Delivered (verdictFrom (t .verdict) (t .skipped))) (outcome.Refused (t .number)))
+    (cond (eqb (t .number) 1) (outcome.Delivered (verdictFrom (t .verdict) (t .skipped) (t .age))) (outcome.Refused (t .number) (t .age)))
 
 outcome-back : (o : Outcome) → OutcomeTells o → outcomeFrom (outcomeTold o) ≡ o
 unfolding outcomeFrom
-outcome-back (outcome.Refused k) t = rw (ne-eqb k 0 (λ z. omega (arith, t)), ne-eqb k 1 (λ z. omega (arith, t)))
+outcome-back (outcome.Refused k age) t = rw (ne-eqb k 0 (λ z. omega (arith, t)), ne-eqb k 1 (λ z. omega (arith, t)))
 outcome-back outcome.Stored t = refl
 outcome-back (outcome.Delivered v) t = ap outcome.Delivered (verdict-back v)
 
@@ -69,7 +81,7 @@ one-outcome a b s t e = sym (outcome-back a s) ∙ ap outcomeFrom e ∙ outcome-
 
 -- "1 delivered"
 pub delivered-outcome : (o : Outcome) → OutcomeTells o → outcomeTold o .number ≡ 1 → (v : Verdict) × (o ≡ outcome.Delivered v)
-delivered-outcome (outcome.Refused k) t e = absurd (omega (arith, t, e))
+delivered-outcome (outcome.Refused k age) t e = absurd (omega (arith, t, e))
 delivered-outcome outcome.Stored t e = absurd (omega (arith, e))
 delivered-outcome (outcome.Delivered v) t e = (v, refl)
 

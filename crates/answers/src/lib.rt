@@ -12,8 +12,8 @@ use state::Sender;
 
 // What became of a packet.
 pub enum Outcome {
-    // with 01's number, 9 or more
-    Refused(u8),
+    // with 01's number, 9 or more; with 17 how far back the number lies, otherwise 0
+    Refused { number: u8, age: u32 },
     Stored,
     Delivered(Verdict),
 }
@@ -23,7 +23,7 @@ impl Outcome {
         ensures { λ r. ⌜ r ≡ outcomeTold self .number ⌝ }
     {
         match self {
-            Outcome::Refused(number) => number,
+            Outcome::Refused { number, age: _ } => number,
             Outcome::Stored => 0,
             Outcome::Delivered(_) => 1,
         }
@@ -34,7 +34,7 @@ impl Outcome {
         ensures { λ r. ⌜ r ≡ refusedNumber self ⌝ }
     {
         match self {
-            Outcome::Refused(number) => number,
+            Outcome::Refused { number, age: _ } => number,
             Outcome::Stored => 0,
             Outcome::Delivered(_) => 0,
         }
@@ -45,9 +45,20 @@ impl Outcome {
         ensures { λ r. ⌜ r ≡ outcomeTold self .verdict ⌝ }
     {
         match self {
-            Outcome::Refused(_) => 0,
+            Outcome::Refused { number: _, age: _ } => 0,
             Outcome::Stored => 0,
             Outcome::Delivered(verdict) => verdict.printed(),
+        }
+    }
+
+    // How old a repeat was.
+    pub fn age(self) -> u32
+        ensures { λ r. ⌜ r ≡ outcomeTold self .age ⌝ }
+    {
+        match self {
+            Outcome::Refused { number: _, age } => age,
+            Outcome::Stored => 0,
+            Outcome::Delivered(verdict) => verdict.age(),
         }
     }
 
@@ -56,7 +67,7 @@ impl Outcome {
         ensures { λ r. ⌜ r ≡ outcomeTold self .skipped ⌝ }
     {
         match self {
-            Outcome::Refused(_) => 0,
+            Outcome::Refused { number: _, age: _ } => 0,
             Outcome::Stored => 0,
             Outcome::Delivered(verdict) => verdict.skipped(),
         }

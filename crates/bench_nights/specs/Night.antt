@@ -41,10 +41,10 @@ packetsBy (n ∷ sizes) packets = message (take n packets) ∷ packetsBy sizes (
 
 -- ---- the number that is answered
 
--- The sum with one more answer in it: a refusal's number or a delivery's verdict, the pieces held, and the length that
--- was handed over.
+-- The sum with one more answer in it: a refusal's number or a delivery's verdict, a repeat's age, the pieces held, and the
+-- length that was handed over.
 abbrev pub summed : ℕ → Outcome → ℕ → ℕ → ℕ
-summed sum o held n = ((sum + (refusedNumber o + outcomeTold o .verdict + held * 256)) % 2 ^ 64 + n) % 2 ^ 64
+summed sum o held n = ((sum + (refusedNumber o + outcomeTold o .verdict + outcomeTold o .age + held * 256)) % 2 ^ 64 + n) % 2 ^ 64
 
 abbrev pub sumWith : ℕ → Answer → List ℕ → ℕ
 sumWith sum a delivered = summed sum (a .outcome) (a .held) (length delivered)

@@ -215,11 +215,11 @@ fn night(
 
 // ---- one packet
 
-// The sum with one more answer in it: its number or its verdict, the pieces held, and the length that was handed over.
+// The sum with one more answer in it: its number or its verdict, its age, the pieces held, and the length that was handed over.
 fn with_answer(sum: u64, o: Outcome, held: u8, size: usize) -> u64
     ensures { λ r. ⌜ r ≡ summed sum o held size ⌝ }
 {
-    let answer = o.refusal() as u64 + o.verdict() as u64 + (held as u64) * 256;
+    let answer = o.refusal() as u64 + o.verdict() as u64 + o.age() as u64 + (held as u64) * 256;
     wrapping_add_u64(wrapping_add_u64(sum, answer), size as u64)
 }
 

@@ -72,13 +72,14 @@ inNumbers o held dropped lies size = record {
   held = held;
   slice = whereTold lies .slice;
   skipped = outcomeTold o .skipped;
+  age = outcomeTold o .age;
   «dropped_version» = dropped .version .0;
   «dropped_number» = dropped .number .0;
   start = partStart lies;
   length = partLength lies size;
 }
 
--- "nothing more"
+-- "nothing more", of a refusal but 17.
 abbrev pub refusedWith : ℕ → Told
 refusedWith k = record {
   number = k;
@@ -86,6 +87,7 @@ refusedWith k = record {
   held = 0;
   slice = 0;
   skipped = 0;
+  age = 0;
   «dropped_version» = 0;
   «dropped_number» = 0;
   start = 0;
@@ -100,7 +102,7 @@ messageFor l room packet = cond (isState l) (toldOf (messageAnswer (stateIn l) r
 
 -- What the call would answer by value: the outcome that is counted.
 unfoldable pub outcomeFor : List ℕ → ℕ → List ℕ → Outcome
-outcomeFor l room packet = cond (isState l) (messageAnswer (stateIn l) room packet .outcome) (Refused 9)
+outcomeFor l room packet = cond (isState l) (messageAnswer (stateIn l) room packet .outcome) (Refused 9 0)
 
 unfoldable pub storageFor : List ℕ → List ℕ → List ℕ → List ℕ
 storageFor l storage packet = cond (isState l) (messageStorage (stateIn l) storage packet) storage

@@ -55,7 +55,7 @@ in-storage packet storage start n h = record { is = rw (le-leb (start + n) (leng
 
 -- Any other outcome than a delivery hands over nothing.
 where-lies : (packet storage : List ℕ) (i : ℕ) (h : Head) (o : Outcome) → LiesIn (liesAt i h) packet storage → LiesIn (whereBy o i h) packet storage
-where-lies packet storage i h (Refused k) lie = refl
+where-lies packet storage i h (Refused k age) lie = refl
 where-lies packet storage i h Stored lie = refl
 where-lies packet storage i h (Delivered v) lie = lie
 

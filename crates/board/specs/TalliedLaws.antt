@@ -20,7 +20,7 @@ use Rattle.board.specs.Calls.{messageFor, outcomeFor, tallyIn, tallyWord
 
 -- Which count grows is told by the answer's number.
 number-tells : (o : Outcome) → OutcomeTells o → leb (outcomeTold o .number) 1 ≡ not (outcomeRefused o)
-number-tells (Refused k) more = lt-leb k 1 (omega (arith, more))
+number-tells (Refused k age) more = lt-leb k 1 (omega (arith, more))
 number-tells Stored more = refl
 number-tells (Delivered v) more = refl
 

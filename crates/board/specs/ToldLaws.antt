@@ -18,7 +18,7 @@ use Rattle.board.specs.Calls.{toldOf, tickedOf, missingOf, writtenOf}
 
 abbrev messageBack : Told → WhereTold → MessageTold
 messageBack t lies = record {
-  outcome = record { number = t .number; verdict = t .verdict; skipped = t .skipped };
+  outcome = record { number = t .number; verdict = t .verdict; skipped = t .skipped; age = t .age };
   held = t .held;
   droppedVersion = t .«dropped_version»;
   droppedNumber = t .«dropped_number»;

@@ -13,6 +13,7 @@ pub struct Told {
     pub held: u8,
     pub slice: u8,
     pub skipped: u32,
+    pub age: u32,
     pub dropped_version: u32,
     pub dropped_number: u32,
     pub start: usize,

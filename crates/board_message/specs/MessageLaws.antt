@@ -24,9 +24,11 @@ use Rattle.state.specs.Table.{source}
 use Rattle.state.specs.WithinLaws.{SenderWithin}
 use Rattle.answers.specs.declared.Admission.{Admission}
 use Rattle.answers.specs.declared.Answer.{Answer}
+use Rattle.answers.specs.declared.Outcome.the-variants.{Refused}
 use Rattle.answers.specs.declared.Where.{Where}
+use Rattle.answers.specs.declared.Where.the-variants.{Nothing}
 use Rattle.answers.specs.Told.{refusedNumber}
-use Rattle.rules.specs.calls.Admit.{senderRows, senderAfter, admitted, admission, messageAfter, lastBy, verdictOf, fills}
+use Rattle.rules.specs.calls.Admit.{senderRows, senderAfter, admitted, admission, messageAfter, lastBy, verdictOf, fills, noneDropped}
 use Rattle.rules.specs.calls.AdmitLaws.{Admitted, admitted-facts, admission-number, admission-yes}
 use Rattle.rules.specs.calls.AdmitValidLaws.{after-stays}
 use Rattle.rules.specs.calls.Alike.{seen}
@@ -34,7 +36,7 @@ use Rattle.rules.specs.calls.First.{row, first}
 use Rattle.rules.specs.calls.FirstLaws.{numbered, first-here, first-none, first-append}
 use Rattle.rules.specs.calls.Message.{headWithin, packetRows, messageAnswer, refused, whereBy, storageAfter, withSender, answerOf}
 use Rattle.rules.specs.calls.MessageLaws.{Passed, passed-facts, Answered, pass-refused, pass-late, pass-taken}
-use Rattle.rules.specs.calls.SeenLaws.{looks-rows, looks-outcome, looks-held, looks-dropped, changes-after}
+use Rattle.rules.specs.calls.SeenLaws.{looks-rows, looks-admission, looks-held, looks-dropped, changes-after}
 use Rattle.words.specs.declared.Record.{Record}
 use Rattle.words.specs.Words.{place, word, recordWords, recordAt, senderOf, joinedBy, isState, stateIn, leftBy}
 use Rattle.words.specs.Shown.{shown}
@@ -69,14 +71,14 @@ module _ (l storage packet : List ℕ) (h : Head) (a : Address) (k : Look) (coun
   count-is : isState l ≡ true → count ≡ word l 4
   count-is is = ec ∙ count-octet l is
 
-  early-refused : (n : ℕ) → isState l ≡ true → n ≡ Rows → (n ≡ 0 → ⊥) → Answered (stateIn l) storage packet (refused (stateIn l) n) storage
+  early-refused : (n : ℕ) → isState l ≡ true → n ≡ Rows → (n ≡ 0 → ⊥) → Answered (stateIn l) storage packet (refused (stateIn l) (Refused n 0)) storage
   early-refused n is e ne =
       pass-refused (stateIn l) storage packet h a k eh ea (look-in l a k el is) n (e ∙ ap (λ (c : ℕ). first (packetRows (k .valid) c (k .at) (length storage) packet h)) (count-is is)) ne
 
   refused-state : (n : ℕ) → isState l ≡ true → n ≡ Rows → (n ≡ 0 → ⊥) → Met l storage packet (refusedWith n) l storage
   unfolding refused
   refused-state n is e ne =
-      met-by l storage packet is (refused (stateIn l) n) storage (early-refused n is e ne)
+      met-by l storage packet is (refused (stateIn l) (Refused n 0)) storage (early-refused n is e ne)
       (refusedWith n) l refl (left-same l)
 
   refused-outside : (n : ℕ) → isState l ≡ false → n ≡ Rows → Met l storage packet (refusedWith n) l storage
@@ -118,21 +120,25 @@ module _ (l storage packet : List ℕ) (h : Head) (a : Address) (k : Look) (coun
         same-rows : first (senderRows (stateIn l .test) (word l 1) (seen (senderOf r)) h) ≡ first (senderRows (stateIn l .test) (word l 1) (senderOf r) h)
         same-rows = ap first (looks-rows h (stateIn l .test) (word l 1) (senderOf r))
 
+        same-outcome : o .outcome ≡ by-value .outcome
+        same-outcome = ap (λ (x : Admission). x .outcome) loaded ∙ looks-admission h (stateIn l .test) (word l 1) (word l 3) (senderOf r)
+
         -- 15 to 20.
         same-number : refusedNumber (o .outcome) ≡ refusedNumber (by-value .outcome)
-        same-number = rw loaded (admission-number (stateIn l .test) (word l 1) (word l 3) (seen (senderOf r)) h ∙ same-rows ∙ sym (admission-number (stateIn l .test) (word l 1) (word l 3) (senderOf r) h))
+        same-number = ap refusedNumber same-outcome
 
         at-place : by-value ≡ admission (stateIn l .test) (word l 1) (word l 3) (senderAt (stateIn l) (k .at)) h
         at-place = rw (sender-here l held (k .at) less r er)
 
-        late-refused : (late : ℕ) → late ≡ refusedNumber (o .outcome) → (late ≡ 0 → ⊥) → Answered (stateIn l) storage packet (refused (stateIn l) late) storage
+        late-refused : (late : ℕ) → late ≡ refusedNumber (o .outcome) → (late ≡ 0 → ⊥) → Answered (stateIn l) storage packet (refused (stateIn l) (o .outcome)) storage
         late-refused late e ne =
-            pass-late (stateIn l) storage packet h a k eh ea (look-in l a k el (held .is-state)) n early-rows none by-value at-place late (e ∙ same-number) ne
+            rw same-outcome
+            (pass-late (stateIn l) storage packet h a k eh ea (look-in l a k el (held .is-state)) n early-rows none by-value at-place late (e ∙ same-number) ne)
 
-        pub met-late : (late : ℕ) → late ≡ refusedNumber (o .outcome) → (late ≡ 0 → ⊥) → (t : Told) → t ≡ refusedWith late → Met l storage packet t l storage
+        pub met-late : (late : ℕ) → late ≡ refusedNumber (o .outcome) → (late ≡ 0 → ⊥) → (t : Told) → t ≡ inNumbers (o .outcome) 0 noneDropped Nothing (length packet) → Met l storage packet t l storage
         unfolding refused
         met-late late e ne t et =
-            met-by l storage packet (held .is-state) (refused (stateIn l) late) storage (late-refused late e ne)
+            met-by l storage packet (held .is-state) (refused (stateIn l) (o .outcome)) storage (late-refused late e ne)
             t l et (left-same l)
 
         -- And none of these.
@@ -151,9 +157,6 @@ module _ (l storage packet : List ℕ) (h : Head) (a : Address) (k : Look) (coun
 
           abbrev after : Sender
           after = senderAfter (word l 1) (word l 3) (senderOf r) h
-
-          same-outcome : o .outcome ≡ by-value .outcome
-          same-outcome = rw (loaded-admitted, is-admitted) (looks-outcome h (word l 1) (word l 3) (senderOf r))
 
           same-held : o .held ≡ by-value .held
           unfolding admitted

@@ -51,7 +51,7 @@ pub extern "C" fn adp_message(state: &mut [u64], storage: &mut [u8], packet: &[u
     let outcome = a.outcome;
     let late = outcome.refusal();
     if late != 0 {
-        return refused(late);
+        return in_numbers(outcome, 0, Dropped::NONE, Where::Nothing, packet.len());
     }
     let next = a.sender;
     words::put(state, at, r.joined(next));
@@ -85,7 +85,7 @@ fn early_number(state: &[u64], room: usize, packet: &[u8]) -> u8
     0
 }
 
-// "nothing more"
+// "nothing more", of a refusal but 17, which has an age
 fn refused(number: u8) -> Told
     ensures { λ r. ⌜ r ≡ refusedWith number ⌝ }
 {
@@ -95,6 +95,7 @@ fn refused(number: u8) -> Told
         held: 0,
         slice: 0,
         skipped: 0,
+        age: 0,
         dropped_version: 0,
         dropped_number: 0,
         start: 0,
@@ -112,6 +113,7 @@ pub fn in_numbers(outcome: Outcome, held: u8, dropped: Dropped, lies: Where, siz
         held,
         slice: slice_of(lies),
         skipped: outcome.skipped(),
+        age: outcome.age(),
         dropped_version: dropped.version.0,
         dropped_number: dropped.number.0,
         start: start_of(lies),

@@ -20,7 +20,7 @@ use Rattle.capture_fields.specs.Field.{headSize, isBad, nextOf, contentsOf, set
 use Rattle.capture_lines.specs.declared.Line.{Line}
 use Rattle.capture_lines.specs.declared.Line.the-variants as line
 use Rattle.capture_run.specs.declared.Turn.{Turn}
-use Rattle.capture_run.specs.Turn.{turnOf, storageOf, turnBy, turnStorage, wantedBy, lentOf}
+use Rattle.capture_run.specs.Turn.{lengthShown, turnOf, storageOf, turnBy, turnStorage, wantedBy, lentOf}
 
 -- ---- what is held between turns
 
@@ -118,11 +118,12 @@ callsIn (whole kind.Clock c ∷ fs) = clock (clockOf c) ∷ callsIn fs
 callsIn (whole kind.Alive c ∷ fs) = alive c ∷ callsIn fs
 callsIn (whole kind.Bad c ∷ fs) = callsIn fs
 
--- "P answer verdict held length (…; length of a delivery, otherwise 0); C answer, dropped map, dead map …; A answer":
+-- "P answer verdict held length (…; length of a delivery, otherwise 0)", but with 17 an age (02, Item 6); "C answer, dropped map, dead map …; A answer":
 -- by what is told of the answer. The program asks no question.
 abbrev pub lineTold : (e : Event) → Said e → Line
 lineTold (message packet) r =
-    line.Message (messageTold (r .0) .outcome .number) (messageTold (r .0) .outcome .verdict) (messageTold (r .0) .held) (length (r .1))
+    let t = messageTold (r .0) in
+    line.Message (t .outcome .number) (t .outcome .verdict) (t .held) (lengthShown (t .outcome) (length (r .1)))
 lineTold (alive packet) r = line.Alive (callNumber (r .call))
 lineTold (clock now) r = line.Clock (clockTold r .number) (clockTold r .dropped) (clockTold r .dead)
 lineTold (aside call) r = line.Nothing

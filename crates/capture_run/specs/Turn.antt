@@ -9,7 +9,7 @@ use Rattle.answers.specs.declared.Answer.{Answer}
 use Rattle.answers.specs.declared.Noted.{Noted}
 use Rattle.answers.specs.declared.Started.{Started}
 use Rattle.answers.specs.declared.Ticked.{Ticked}
-use Rattle.answers.specs.Told.{messageTold, callNumber, clockTold}
+use Rattle.answers.specs.Told.{OutcomeTold, messageTold, callNumber, clockTold}
 use Rattle.rules.specs.calls.Alive.{aliveAnswer}
 use Rattle.rules.specs.calls.Clock.{clockAnswer}
 use Rattle.rules.specs.calls.Message.{area, messageAnswer, messageStorage}
@@ -33,12 +33,16 @@ startedTurn w a = record {
   on = true;
 }
 
+-- 02, Item 6: with 17 "the program prints it as the P line's length": how far back the number lies.
+abbrev pub lengthShown : OutcomeTold → ℕ → ℕ
+lengthShown t n = cond (eqb (t .number) 17) (t .age) n
+
 -- "P answer verdict held length (held: pieces then held for the PDU's sender, 0 on a refusal; length of a delivery,
 -- otherwise 0)"
 abbrev pub answeredTurn : Answer → List ℕ → Turn
 answeredTurn a delivered = record {
   state = a .state;
-  line = line.Message (messageTold a .outcome .number) (messageTold a .outcome .verdict) (messageTold a .held) (length delivered);
+  line = line.Message (messageTold a .outcome .number) (messageTold a .outcome .verdict) (messageTold a .held) (lengthShown (messageTold a .outcome) (length delivered));
   on = true;
 }
 

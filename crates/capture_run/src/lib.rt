@@ -7,14 +7,16 @@ ghost use mathlib.Core.Bool.{cond};
 ghost use lib.Dec.{eqb};
 ghost use lib.ListN.{length};
 ghost use Prim.Native.Nat.{_≤_};
+ghost use Rattle.answers.specs.Told.{outcomeTold};
 ghost use Rattle.rules.specs.calls.Alive.{aliveAnswer};
 ghost use Rattle.rules.specs.calls.Clock.{clockAnswer};
 ghost use Rattle.rules.specs.calls.Message.{messageStorage};
 ghost use Rattle.rules.specs.calls.Setup.{setupAnswer};
 ghost use Rattle.capture_fields.specs.Field.{sizeOf, nextOf, setupOf, clockOf};
-ghost use Rattle.capture_run.specs.Turn.{startedTurn, tickedTurn, notedTurn, endTurn, turnOf, storageOf, turnBy, turnStorage, wantedBy, lentOf};
+ghost use Rattle.capture_run.specs.Turn.{lengthShown, startedTurn, tickedTurn, notedTurn, endTurn, turnOf, storageOf, turnBy, turnStorage, wantedBy, lentOf};
 ghost use Rattle.capture_fields.specs.declared.Kind.the-variants as kind;
 use alive::alive;
+use answers::Outcome;
 use capture_fields::HEAD;
 use capture_fields::Kind;
 use capture_fields::Next;
@@ -115,12 +117,23 @@ fn message_turn(state: Receiver, storage: &mut [u8], contents: &[u8]) -> Turn
         answer: outcome.number(),
         verdict: outcome.verdict(),
         held: a.held,
-        length: delivered.len(),
+        length: shown(outcome, delivered.len()),
     };
     Turn {
         state: next,
         line,
         on: true,
+    }
+}
+
+// The length of a delivery, and with 17 how old the repeat was.
+fn shown(outcome: Outcome, length: usize) -> usize
+    ensures { λ r. ⌜ r ≡ lengthShown (outcomeTold outcome) length ⌝ }
+{
+    if outcome.number() == 17 {
+        outcome.age() as usize
+    } else {
+        length
     }
 }
 

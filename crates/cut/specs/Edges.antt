@@ -7,7 +7,7 @@ use lib.Dec.{eqb}
 use Rattle.ring.specs.declared.Verdict.{Verdict}
 use Rattle.ring.specs.declared.Verdict.the-variants.{Repeat, Next, Gap}
 use Rattle.ring.specs.Ring.{M, remainder}
-use Rattle.ring.specs.Check.{check, rule4, verdictNumber, verdictSkipped}
+use Rattle.ring.specs.Check.{check, rule4, verdictNumber, verdictSkipped, verdictAge}
 use Rattle.cut.specs.Pieces.{pieces, pieceLength}
 use Rattle.cut.specs.Cutter.{cutFor}
 
@@ -20,7 +20,7 @@ pub data Edge : Type 0 where
   verdict : (r s : ℕ) → Verdict → Edge
 
 abbrev pub same : Verdict → Verdict → Bool
-same a b = eqb (verdictNumber a) (verdictNumber b) && eqb (verdictSkipped a) (verdictSkipped b)
+same a b = eqb (verdictNumber a) (verdictNumber b) && eqb (verdictSkipped a) (verdictSkipped b) && eqb (verdictAge a) (verdictAge b)
 
 pub met : Edge → Bool
 met (count n u t) = eqb (pieces n u) t
@@ -44,10 +44,10 @@ edges =
     ∷ count 16384 256 64
     -- "n 1396, u 1396: one. n 1397: two, last BSIZE 65. n 0: one, ML 64."
     ∷ count 1396 1396 1 ∷ count 1397 1396 2 ∷ bsize 1397 1396 2 65 ∷ count 0 1396 1 ∷ ml 0 1396 64
-    -- "R 100: 101 next, 100 and 85 repeat, 84 gap of 2147483630, 103 gap of 2."
-    ∷ verdict 100 101 Next ∷ verdict 100 100 Repeat ∷ verdict 100 85 Repeat ∷ verdict 100 84 (Gap 2147483630) ∷ verdict 100 103 (Gap 2)
+    -- "R 100: 101 next, 100 and 85 repeat, 84 gap of 2147483630, 103 gap of 2." 02, Item 6: how far back.
+    ∷ verdict 100 101 Next ∷ verdict 100 100 (Repeat 0) ∷ verdict 100 85 (Repeat 15) ∷ verdict 100 84 (Gap 2147483630) ∷ verdict 100 103 (Gap 2)
     -- "R M: 1 next. R 3: 2147483635 repeat, 2147483634 gap."
-    ∷ verdict M 1 Next ∷ verdict 3 2147483635 Repeat ∷ verdict 3 2147483634 (Gap 2147483630) ∷ []
+    ∷ verdict M 1 Next ∷ verdict 3 2147483635 (Repeat 15) ∷ verdict 3 2147483634 (Gap 2147483630) ∷ []
 
 pub every-edge : all edges ≡ true
 unfolding all met edges pieces pieceLength check rule4 remainder

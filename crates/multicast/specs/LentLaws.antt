@@ -12,7 +12,7 @@ use lib.Dec.{eqb}
 use lib.ListN.{length, set}
 use borrow.Author.Tests.{ne-eqb}
 use Rattle.octets.specs.Split.{true-or-false}
-use Rattle.ring.specs.Check.{isRepeat}
+use Rattle.ring.specs.Check.{verdictAge, isRepeat}
 use Rattle.header.specs.declared.Head.{Head}
 use Rattle.header.specs.Head.{headOf}
 use Rattle.state.specs.declared.Look.{Look}
@@ -24,8 +24,10 @@ use Rattle.answers.specs.declared.Listener.{Listener}
 use Rattle.answers.specs.declared.Outcome.{Outcome}
 use Rattle.answers.specs.declared.Outcome.the-variants.{Refused, Delivered}
 use Rattle.answers.specs.declared.Where.{Where}
+use Rattle.answers.specs.Told.{refusal}
+use Rattle.answers.specs.ToldLaws.{refusal-plain}
 use Rattle.rules.specs.calls.First.{row, first}
-use Rattle.rules.specs.calls.FirstLaws.{first-here, first-later, first-append, numbered}
+use Rattle.rules.specs.calls.FirstLaws.{first-here, first-later, first-append, numbered, without, first-without}
 use Rattle.rules.specs.calls.Multicast.{Tables, tablesWithin, onePiece, verdictIn, earlyCastRows, lateCastRows, castRows, placeFor, castOutcome, isKept, keptBy, castTables, handedBy, groupAnswer, listening, multicastAnswer, multicastTables}
 use Rattle.rules.specs.calls.MulticastLaws.{listening-nine}
 
@@ -52,32 +54,33 @@ module _ (s : Listener) (t : Tables) (g : ℕ) (packet : List ℕ) (h : Head) (e
   number-is = rw is (first-append (earlyCastRows s t g packet h) (lateCastRows s t g h) (unfold numbered in refl))
 
   -- One of 9, 26, 12 to 14 and 25.
-  pub early-refused : early ≢ 0 → Refused early ≡ castOutcome s t g packet h
+  pub early-refused : early ≢ 0 → Refused early 0 ≡ castOutcome s t g packet h
   unfolding castOutcome
   early-refused ne =
       let told : first (castRows s t g packet h) ≡ early = number-is ∙ rw (ne-eqb early 0 ne) in
-      rw (told, ne-eqb early 0 ne)
+      let plain = first-without 17 (earlyCastRows s t g packet h) (λ z. omega (arith, z)) (unfold without in refl) in
+      rw (told, ne-eqb early 0 ne) (sym (refusal-plain early (verdictIn s t g h) (λ z. plain (sym is ∙ z))))
 
   module _ (none : early ≡ 0) where
-    late : (k : ℕ) → first (lateCastRows s t g h) ≡ k → k ≢ 0 → Refused k ≡ castOutcome s t g packet h
+    late : (k : ℕ) → first (lateCastRows s t g h) ≡ k → k ≢ 0 → refusal k (verdictIn s t g h) ≡ castOutcome s t g packet h
     unfolding castOutcome
     late k e ne = rw (number-is, none, e, ne-eqb k 0 ne)
 
     abbrev ModeWrong : Bool
     ModeWrong = eqb (h .given .mode) 1 && not (s .test)
 
-    pub late-mode : ModeWrong ≡ true → Refused 15 ≡ castOutcome s t g packet h
+    pub late-mode : ModeWrong ≡ true → Refused 15 0 ≡ castOutcome s t g packet h
     late-mode e = late 15 (first-here 15 ModeWrong _ e) (λ z. omega (arith, z))
 
     module _ (mode : ModeWrong ≡ false) where
-      pub late-cut : onePiece (h .cut) ≡ false → Refused 16 ≡ castOutcome s t g packet h
+      pub late-cut : onePiece (h .cut) ≡ false → Refused 16 0 ≡ castOutcome s t g packet h
       late-cut e = late 16 (first-later 15 ModeWrong _ mode ∙ first-here 16 (not (onePiece (h .cut))) _ (ap not e)) (λ z. omega (arith, z))
 
       module _ (cut : onePiece (h .cut) ≡ true) where
         passed : first (lateCastRows s t g h) ≡ first (row 17 (isRepeat (verdictIn s t g h)) ∷ [])
         passed = first-later 15 ModeWrong _ mode ∙ first-later 16 (not (onePiece (h .cut))) _ (ap not cut)
 
-        pub late-repeat : isRepeat (verdictIn s t g h) ≡ true → Refused 17 ≡ castOutcome s t g packet h
+        pub late-repeat : isRepeat (verdictIn s t g h) ≡ true → Refused 17 (verdictAge (verdictIn s t g h)) ≡ castOutcome s t g packet h
         late-repeat e = late 17 (passed ∙ first-here 17 (isRepeat (verdictIn s t g h)) _ e) (λ z. omega (arith, z))
 
         pub late-none : isRepeat (verdictIn s t g h) ≡ false → Delivered (verdictIn s t g h) ≡ castOutcome s t g packet h
@@ -148,7 +151,7 @@ module _ (w : Receiver) (t : Tables) (g : ℕ) (packet : List ℕ) (h : Head) (l
 
 -- Of a state outside its limits nothing is looked at, and nothing changes.
 pub left-outside : (s : Listener) (t : Tables) (g : ℕ) (packet : List ℕ) (h : Head) → s .valid ≡ false → (o : Outcome) (versions numbers : List ℕ)
-    → Left s t g packet h o versions numbers → (o ≡ Refused 9) × (versions ≡ t .versions) × (numbers ≡ t .numbers)
+    → Left s t g packet h o versions numbers → (o ≡ Refused 9 0) × (versions ≡ t .versions) × (numbers ≡ t .numbers)
 unfolding castOutcome keptBy
 left-outside s t g packet h outside o versions numbers left =
     let nine = listening-nine s t g packet h outside in

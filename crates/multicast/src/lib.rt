@@ -5,6 +5,7 @@
 // in the tables are said in `rules`, as is what becomes of a packet.
 ghost use mathlib.Core.Path.{_≡_};
 ghost use lib.ListN.{getD, set as setAt};
+ghost use Rattle.answers.specs.declared.Outcome.the-variants.{Refused};
 ghost use Rattle.rules.specs.calls.First.{first};
 ghost use Rattle.rules.specs.calls.Multicast.{entriesOf, entryPlace, tablesWithin, onePiece, placeFor, verdictIn, earlyCastRows, castOutcome, isKept, castTables, handedBy, multicastAnswer, multicastTables};
 ghost use Rattle.multicast.specs.Lent.{tables};
@@ -90,7 +91,7 @@ pub fn handed(o: Outcome) -> Where
     ensures { λ r. ⌜ r ≡ handedBy o ⌝ }
 {
     match o {
-        Outcome::Refused(_) => Where::Nothing,
+        Outcome::Refused { number: _, age: _ } => Where::Nothing,
         Outcome::Stored => Where::Nothing,
         Outcome::Delivered(_) => Where::Packet,
     }
@@ -111,21 +112,31 @@ fn outcome_of(
 {
     let early = early_number(s, versions, numbers, group, packet, h);
     if early != 0 {
-        return Outcome::Refused(early);
+        return refused(early);
     }
     let given = h.given;
     let cut = h.cut;
     if (given.mode == 1) & !s.test {
-        return Outcome::Refused(15);
+        return refused(15);
     }
     if !one_piece(cut) {
-        return Outcome::Refused(16);
+        return refused(16);
     }
     let verdict = verdict_in(s, versions, numbers, group, h);
     if verdict.is_repeat() {
-        return Outcome::Refused(17);
+        return Outcome::Refused {
+            number: 17,
+            age: verdict.age(),
+        };
     }
     Outcome::Delivered(verdict)
+}
+
+// A refusal but 17, which has an age.
+fn refused(number: u8) -> Outcome
+    ensures { λ r. ⌜ r ≡ Refused number 0 ⌝ }
+{
+    Outcome::Refused { number, age: 0 }
 }
 
 // The first of 9, 26, 12 to 14 and 25 that applies, or 0.
@@ -232,7 +243,7 @@ fn is_kept(o: Outcome) -> bool
     ensures { λ r. ⌜ r ≡ isKept o ⌝ }
 {
     match o {
-        Outcome::Refused(_) => false,
+        Outcome::Refused { number: _, age: _ } => false,
         Outcome::Stored => false,
         Outcome::Delivered(verdict) => !verdict.is_unchecked(),
     }

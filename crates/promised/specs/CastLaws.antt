@@ -6,9 +6,9 @@ use mathlib.Core.Bool.{Bool, true, false, not, cond, _&&_}
 use mathlib.Core.List.{List, []}
 use native.Mathlib.Omega.{arith}
 use lib.Dec.{eqb, leb}
-use lib.ListN.{length, drop}
-use borrow.Author.Tests.{le-leb, ne-eqb}
-use Rattle.octets.specs.Split.{lt-or-le, never-both}
+use lib.ListN.{length, take, drop}
+use borrow.Author.Tests.{le-leb, leb-false, ne-eqb}
+use Rattle.octets.specs.Split.{lt-or-le}
 use Rattle.ring.specs.declared.Verdict.{Verdict}
 use Rattle.ring.specs.Check.{isUnchecked}
 use Rattle.header.specs.declared.Head.{Head}
@@ -23,9 +23,10 @@ use Rattle.answers.specs.declared.Listener.{Listener}
 use Rattle.answers.specs.declared.Outcome.{Outcome}
 use Rattle.answers.specs.declared.Outcome.the-variants.{Refused, Delivered}
 use Rattle.answers.specs.declared.Setup.{Setup}
-use Rattle.answers.specs.Told.{GroupTold, groupTold, deliveredAs, groupRefused}
-use Rattle.rules.specs.calls.First.{first}
-use Rattle.rules.specs.calls.FirstLaws.{first-none}
+use Rattle.answers.specs.Told.{GroupTold, groupTold, deliveredAs, ageWith, groupRefused}
+use Rattle.answers.specs.ToldLaws.{age-same}
+use Rattle.rules.specs.calls.First.{Row, first}
+use Rattle.rules.specs.calls.FirstLaws.{first-none, first-neither, numbered, without, behind-without}
 use Rattle.rules.specs.calls.Multicast.{Tables, withEntry, placeFor, verdictIn, castRows, listening, castOutcome, keptBy, handedBy, groupAnswer, multicastAnswer, multicastTables}
 use Rattle.rules.specs.calls.Part.{partOf}
 use Rattle.rules.specs.calls.SetupLaws.{setup-facts}
@@ -39,7 +40,7 @@ use Rattle.promised.specs.MessageSaysLaws.{online-is}
 use Rattle.promised.specs.SaysLaws.{place-is, accepted-setup}
 
 -- Delivered or refused, with the tables and the part.
-module _ (t : Tables) (k : ℕ) (h : Head) (packet storage : List ℕ) (v : Verdict) (number : ℕ) where
+module _ (t : Tables) (k : ℕ) (h : Head) (packet storage : List ℕ) (v : Verdict) (number age : ℕ) where
   abbrev Three : Type 0
   Three = GroupTold × Tables × List ℕ
 
@@ -53,7 +54,7 @@ module _ (t : Tables) (k : ℕ) (h : Head) (packet storage : List ℕ) (v : Verd
     drop 64 packet,
   )
 
-  either-way : (b : Bool) → made (cond b (Delivered v) (Refused number)) ≡ cond b delivered (groupRefused number, t, [])
+  either-way : (b : Bool) → made (cond b (Delivered v) (Refused number age)) ≡ cond b delivered (groupRefused number age, t, [])
   unfolding keptBy
   either-way true = by (isUnchecked v)
     where
@@ -109,14 +110,32 @@ module _ (q : Setup) (log : List Exchange) (w : World) (a : Agrees q log w) (t :
       rw (a .sound .is-valid, group-count, cast-length packet, message-head packet, place-is q log w a (source h) packet refl, a .count, unknown-is none))
       (lt-or-le (found (w .state) h) (w .state .count))
 
-  -- An unknown sender's packet is refused.
-  refused-unknown : w .state .count ≤ found (w .state) h → eqb (first (rowsCast q (hasTables q t) verdict g packet)) 0 ≡ false
-  refused-unknown none = ne-eqb (first (rowsCast q (hasTables q t) verdict g packet)) 0 (λ z.
-      let r26 = first-none 26 (not (hasTables q t)) _ (λ e. omega arith) z in
+  abbrev number : ℕ
+  number = first (rowsCast q (hasTables q t) verdict g packet)
+
+  -- 26, 12 to 14; where none of them applies, the sender is registered.
+  abbrev earlier : List Row
+  earlier = take 4 (rowsCast q (hasTables q t) verdict g packet)
+
+  earlier-here : first earlier ≡ 0 → found (w .state) h < w .state .count
+  earlier-here none =
+      let r26 = first-none 26 (not (hasTables q t)) _ (λ e. omega arith) none in
       let r12 = first-none 12 (not (hasLength 64 1472 packet)) _ (λ e. omega arith) (r26 .1) in
       let r13 = first-none 13 (not (isMessage packet)) _ (λ e. omega arith) (r12 .1) in
       let r14 = first-none 14 (leb (length (sendersOf q)) (placeOf (sendersOf q) (source h))) _ (λ e. omega arith) (r13 .1) in
-      never-both (unknown-is none) (r14 .0))
+      omega (arith, leb-false (length (sendersOf q)) (placeOf (sendersOf q) (source h)) (r14 .0), place-is q log w a (source h) packet refl, a .count)
+
+  abbrev later : List Row
+  later = drop 4 (rowsCast q (hasTables q t) verdict g packet)
+
+  -- An unknown sender's packet is refused,
+  refused-unknown : w .state .count ≤ found (w .state) h → eqb number 0 ≡ false
+  refused-unknown none = ne-eqb number 0 (λ z. omega (arith, none, earlier-here (first-neither earlier later (unfold numbered in refl) z .0)))
+
+  -- and not with 17.
+  same-age : ageWith number (verdictIn s t g h) ≡ ageWith number verdict
+  same-age = age-same number _ _ (λ e.
+      verdict-is (earlier-here (behind-without 17 earlier later (λ z. omega (arith, z)) (unfold numbered in refl) (unfold without in refl) e)))
 
   pub cast-says : _≡_ {A = GroupTold × Tables × List ℕ}
       (groupTold (multicastAnswer (w .state) t g packet), multicastTables (w .state) t g packet, partOf (multicastAnswer (w .state) t g packet .lies) packet (w .storage))
@@ -124,7 +143,7 @@ module _ (q : Setup) (log : List Exchange) (w : World) (a : Agrees q log w) (t :
   unfolding multicastAnswer multicastTables castOutcome castSays
   cast-says =
       let n = first (castRows s t g packet h) in
-      either-way t (placeFor s g h) h packet (w .storage) (verdictIn s t g h) n (eqb n 0) ∙ rw cast-number (⊎-elim
+      either-way t (placeFor s g h) h packet (w .storage) (verdictIn s t g h) n (ageWith n (verdictIn s t g h)) (eqb n 0) ∙ rw (cast-number, same-age) (⊎-elim
       (λ (here : found (w .state) h < w .state .count). rw (verdict-is here, cast-entry))
       (λ (none : w .state .count ≤ found (w .state) h). rw (refused-unknown none))
       (lt-or-le (found (w .state) h) (w .state .count)))

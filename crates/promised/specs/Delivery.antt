@@ -167,12 +167,12 @@ pub data OneApplies (m : Sent) (es : List Event) (c : ℕ) : Type 0 where
 -- piece c is told, and the part that is then handed over. The verdict is what the check gave after the past.
 pub record Arrives (m : Sent) (verdict : Verdict) (es : List Event) (c : ℕ) (outcome : OutcomeTold) (part : List ℕ) : Type 0 where
   pub delivered : LastMissing m es c → (outcome ≡ deliveredAs verdict) × (part ≡ m .octets)
-  pub stored : OneOfSeveral m es c → outcome ≡ notDelivered 0
-  pub held : CameBefore m es c → outcome ≡ notDelivered 20
+  pub stored : OneOfSeveral m es c → outcome ≡ notDelivered 0 0
+  pub held : CameBefore m es c → outcome ≡ notDelivered 20 0
 
--- "once": all came before, so the message was delivered. "If its version is not 0" is asked for this alone.
+-- "once": all came before, so the message was delivered, and is the last that was: it lies 0 back. "If its version is not 0" is asked for this alone.
 abbrev pub Once : Sent → List Event → OutcomeTold → Type 0
-Once m es outcome = AllCame m es → outcome ≡ notDelivered 17
+Once m es outcome = AllCame m es → outcome ≡ notDelivered 17 0
 
 -- The deliveries of this message among others.
 abbrev pub isIts : Sent → Delivery → Bool

@@ -27,7 +27,7 @@ use Rattle.state.specs.WithinLaws.{same-is, valid-groups}
 use Rattle.answers.specs.declared.Listener.{Listener}
 use Rattle.answers.specs.declared.Setup.{Setup}
 use Rattle.rules.specs.calls.First.{Row, row, first, Given}
-use Rattle.rules.specs.calls.FirstLaws.{first-none, first-append, numbered, first-given, given-above}
+use Rattle.rules.specs.calls.FirstLaws.{first-none, first-append, numbered, without, first-without, first-given, given-above}
 use Rattle.rules.specs.calls.ExactlyLaws.{multicast-above, multicast-refuses}
 use Rattle.rules.specs.calls.Multicast.{Tables, entriesOf, entryPlace, withEntry, placeFor, onePiece, verdictIn, castRows, listening, castOutcome, keptBy, multicastRows, multicastAnswer, multicastTables}
 use Rattle.rules.specs.calls.MulticastLaws.{Cast, cast-facts, cast-within, head-pri, place-apart, place-below, TablesWithin, tables-facts, entry-same, entry-other}
@@ -265,7 +265,8 @@ module _ (q : Setup) (begun : Tables) (log : List Exchange) (t : Tables) (inv : 
       (λ (some : first earlier ≢ 0).
       let one = stops by-table some in
       let two = stops by-past some in
-      rw (one, two, ne-eqb (first earlier) 0 some))
+      let plain = first-without 17 earlier (λ z. omega (arith, z)) (unfold without in refl) in
+      rw (one, two, ne-eqb (first earlier) 0 some, ne-eqb (first earlier) 17 plain))
       (eq-or-ne (first earlier) 0))
     where
       stops : (v : Verdict) → first earlier ≢ 0 → first (earlier ++ later v) ≡ first earlier

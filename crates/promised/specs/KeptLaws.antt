@@ -20,14 +20,14 @@ use Rattle.state.specs.declared.Sender.{Sender}
 use Rattle.state.specs.State.{noSender, senderAt, Settings, withHeard}
 use Rattle.state.specs.Table.{source, found}
 use Rattle.answers.specs.declared.Noted.{Noted}
-use Rattle.answers.specs.Told.{OutcomeTold, notDelivered, outcomeTold, MessageTold, messageTold, messageRefused, callNumber, clockTold}
+use Rattle.answers.specs.Told.{OutcomeTold, notDelivered, ageWith, outcomeTold, MessageTold, messageTold, messageRefused, callNumber, clockTold}
 use Rattle.rules.specs.calls.Admit.{senderRows}
 use Rattle.rules.specs.calls.Alive.{aliveRows, heardBy, noted, notNoted, aliveAnswer}
 use Rattle.rules.specs.calls.Clock.{drops, dies, aged, ticked, notTicked, clockAnswer}
 use Rattle.rules.specs.calls.ClockLaws.{clock-back, clock-on, map-bit}
 use Rattle.rules.specs.calls.First.{first}
 use Rattle.rules.specs.calls.FirstLaws.{above, first-given, given-above}
-use Rattle.rules.specs.calls.Message.{messageRows, messageNumber, messageAnswer, refused}
+use Rattle.rules.specs.calls.Message.{messageRows, messageNumber, verdictAt, messageAnswer, refused}
 use Rattle.rules.specs.pasts.Past.{World, Event, message, alive, clock, aside, step, answerTo, said}
 use Rattle.promised.specs.Judged.{inOrder, isFrom, sentFrom}
 use Rattle.promised.specs.AlivePast.{isSignal}
@@ -45,7 +45,8 @@ TellsLog a i log w = Tells (lastOf a (deliveries log)) (timeOf log) (openOf a i 
 -- ---- a refused packet
 
 module _ (w : World) (p : List ℕ) (ne : messageNumber (w .state) (length (w .storage)) p ≢ 0) where
-  pub refused-told : messageTold (answerTo w p) ≡ messageRefused (messageNumber (w .state) (length (w .storage)) p)
+  pub refused-told : messageTold (answerTo w p)
+      ≡ messageRefused (messageNumber (w .state) (length (w .storage)) p) (ageWith (messageNumber (w .state) (length (w .storage)) p) (verdictAt (w .state) (headOf p)))
   unfolding messageAnswer refused
   refused-told = rw (ne-eqb (messageNumber (w .state) (length (w .storage)) p) 0 ne)
 
@@ -101,7 +102,7 @@ module _ (g : Settings) (a : Address) (i : ℕ) (w : World) (r : Registered g a 
       let ne = refused-packet own e in
       let k = messageNumber (w .state) (length (w .storage)) p in
       let above : 8 < k = refused-above w p ne in
-      let is : outcomeTold (answerTo w p .outcome) ≡ notDelivered k = ap (λ (m : MessageTold). m .outcome) (refused-told w p ne) in
+      let is : outcomeTold (answerTo w p .outcome) ≡ notDelivered k (ageWith k (verdictAt (w .state) (headOf p))) = ap (λ (m : MessageTold). m .outcome) (refused-told w p ne) in
       rw (own, is, ne-eqb k 0 ne, ne-eqb k 1 (λ z. omega (arith, above))) t)
       (λ (other : sentFrom a p ≡ false). rw (last-other o (said w (message p) .1) (deliveries log) other, other) t)
       (true-or-false (sentFrom a p)))

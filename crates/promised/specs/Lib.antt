@@ -13,6 +13,8 @@ pub mod Delivery
 pub mod Needed
 -- What a newcomer is told, by its number and the open one.
 pub mod Newcomer
+-- How old a repeat was.
+pub mod Age
 -- Who is alive.
 pub mod AlivePast
 -- For the proofs alone: what one sender sees of a past.
@@ -40,3 +42,4 @@ pub mod DeliveryLaws
 pub mod ListedLaws
 pub mod NeededLaws
 pub mod NewcomerLaws
+pub mod AgeLaws

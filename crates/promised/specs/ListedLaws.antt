@@ -115,7 +115,7 @@ module _ (q : Setup) (m : Sent) (k : Cuttable m) (i : ℕ) (here : i < length (s
         arrived : Arrives m verdict done c (outcome p) (partTo w p) × (m .version .0 ≢ 0 → Once m done (outcome p))
         arrived = arrives q m k i here registered admits last new done log w o c p is
 
-        not-told : (n : ℕ) → outcome p ≡ notDelivered n → n ≢ 1 → deliveredOf m (delivered p ++ ds) ≡ deliveredOf m ds
+        not-told : (n : ℕ) → outcome p ≡ notDelivered n 0 → n ≢ 1 → deliveredOf m (delivered p ++ ds) ≡ deliveredOf m ds
         not-told n told ne = none-delivered p (λ z. ne (sym (ap (λ (t : OutcomeTold). t .number) told) ∙ z))
 
         by : OneApplies m done c → Listed m verdict (done ++ (message p ∷ [])) (delivered p ++ ds)

@@ -149,7 +149,7 @@ pub is-five : (v : Verdict) → eqb (verdictNumber v) 5 ≡ isUnchecked v
 is-five Unchecked = refl
 is-five First = refl
 is-five Restart = refl
-is-five Repeat = refl
+is-five (Repeat d) = refl
 is-five Next = refl
 is-five (Gap k) = refl
 

@@ -6,8 +6,8 @@ use mathlib.Core.Bool.{Bool, true, false, not, cond, _&&_}
 use mathlib.Core.List.{List, [], _∷_, List·Memᴰ, List·Memᴰ·cases-cons, List·Memᴰ·not-nil}
 use native.Mathlib.Omega.{arith}
 use lib.Count.{ones}
-use lib.Dec.{eqb}
-use lib.ListN.{length}
+use lib.Dec.{eqb, leb}
+use lib.ListN.{length, take}
 use borrow.Author.Tests.{eq-eqb, ne-eqb, leb-false, not-false}
 use Rattle.octets.specs.FirstPlaceLaws.{place-holds}
 use Rattle.octets.specs.Split.{eq-or-ne, true-or-false, and-right}
@@ -33,17 +33,18 @@ use Rattle.state.specs.Table.{source, found}
 use Rattle.state.specs.WithinLaws.{message-facts, valid-sender, same-is}
 use Rattle.answers.specs.declared.Setup.{Setup}
 use Rattle.answers.specs.declared.Outcome.the-variants.{Delivered}
-use Rattle.answers.specs.Told.{whereTold, MessageTold, messageTold}
+use Rattle.answers.specs.Told.{ageWith, whereTold, MessageTold, messageTold}
+use Rattle.answers.specs.ToldLaws.{age-same}
 use Rattle.rules.specs.calls.Admit.{keptAfter, fills, heldAfter, noneDropped, droppedBy, admitted, rejoins, sameCut, verdictOf, senderRows}
 use Rattle.rules.specs.calls.AdmitLaws.{Admitted, rejoins-open, drops-or-joins}
 use Rattle.rules.specs.calls.AdmitValidLaws.{kept-ones}
 use Rattle.rules.specs.calls.First.{Row, row, first}
-use Rattle.rules.specs.calls.FirstLaws.{first-later}
-use Rattle.rules.specs.calls.Message.{area, headWithin, messageRows, messageNumber, messageAnswer, liesAt, taken, refused}
+use Rattle.rules.specs.calls.FirstLaws.{first-none, first-later, numbered, without, behind-without}
+use Rattle.rules.specs.calls.Message.{area, headWithin, messageRows, messageNumber, verdictAt, messageAnswer, liesAt, taken, refused}
 use Rattle.rules.specs.calls.MessageLaws.{Passed, taken-facts}
 use Rattle.rules.specs.calls.SetupLaws.{setup-facts}
 use Rattle.rules.specs.pasts.Past.{World, message, answerTo, partTo}
-use Rattle.promised.specs.Judged.{isFrom}
+use Rattle.promised.specs.Judged.{hasLength, isMessage, isFrom}
 use Rattle.promised.specs.AgreesLaws.{Agrees}
 use Rattle.promised.specs.Join.{Kin, kinOf, numberIn, behind, OnePerNumber, Joined}
 use Rattle.promised.specs.JoinLaws.{kinIn, kin-same}
@@ -180,11 +181,28 @@ module _ (q : Setup) (log : List Exchange) (w : World) (a : Agrees q log w) (p :
       rows-on 14 _ _ _ _ (rw (at-place, a .count)) (λ registered.
       rw at-place (rows-are (leb-false (w .state .count) i (rw at-place at registered))))))
 
+  verdict-is : i < w .state .count → verdictOf (w .state .n1) (senderAt (w .state) i) (headOf p) ≡ verdict
+  unfolding view
+  verdict-is here = rw (ap (λ (x : Settings). x .n1) (a .settings (accepted-setup q log w a i here)), its-tells here .same-last)
+
   -- ---- what is told to a refused packet
+
+  -- 17 is given to registered senders alone.
+  repeat-here : number ≡ 17 → i < w .state .count
+  repeat-here e =
+      let ahead = take 3 (rowsFor q verdict with p) in
+      let none = behind-without 17 ahead (laterRows q verdict with p) (λ z. omega (arith, z)) (unfold numbered in refl) (unfold without in refl) (sym number-says ∙ e) in
+      let r12 = first-none 12 (not (hasLength 64 1460 p)) _ (λ z. omega arith) none in
+      let r13 = first-none 13 (not (isMessage p)) _ (λ z. omega arith) (r12 .1) in
+      let r14 = first-none 14 (leb (length (sendersOf q)) i) _ (λ z. omega arith) (r13 .1) in
+      omega (arith, leb-false (length (sendersOf q)) i (r14 .0), a .count)
+
+  same-age : ageWith number (verdictAt (w .state) (headOf p)) ≡ ageWith number verdict
+  same-age = age-same number _ _ (λ e. ap (λ (j : ℕ). verdictOf (w .state .n1) (senderAt (w .state) j) (headOf p)) at-place ∙ verdict-is (repeat-here e))
 
   refused-says : number ≢ 0 → (messageTold (answerTo w p), partTo w p) ≡ messageSays q log p
   unfolding messageAnswer refused messageSays
-  refused-says ne = rw (← number-says, ne-eqb number 0 ne)
+  refused-says ne = rw (← number-says, ne-eqb number 0 ne, same-age)
 
   -- ---- what is told to an accepted one
 
@@ -217,10 +235,6 @@ module _ (q : Setup) (log : List Exchange) (w : World) (a : Agrees q log w) (p :
 
     own-none : numberOf g (view w i) p ≡ 0
     own-none = sym (registered-number g src i w registered p mine) ∙ none
-
-    verdict-is : verdictOf (w .state .n1) sender (headOf p) ≡ verdict
-    unfolding view
-    verdict-is = rw (ap (λ (x : Settings). x .n1) (a .settings (accepted-setup q log w a i here)), t .same-last)
 
     fills-is : fills sender (headOf p) ≡ eqb (length (acceptedWith with p)) (headOf p .cut .tbn)
     unfolding view
@@ -280,7 +294,7 @@ module _ (q : Setup) (log : List Exchange) (w : World) (a : Agrees q log w) (p :
     accepted-says = ⊎-elim delivered-says stored-says (true-or-false (fills sender (headOf p)))
       where
         delivered-says : fills sender (headOf p) ≡ true → (messageTold (answerTo w p), partTo w p) ≡ messageSays q log p
-        delivered-says f = rw (part-is f) (unfold messageAnswer taken admitted heldAfter messageSays in rw (← number-says, none, at-place, ← fills-is, f, verdict-is, dropped-is, lies-is))
+        delivered-says f = rw (part-is f) (unfold messageAnswer taken admitted heldAfter messageSays in rw (← number-says, none, at-place, ← fills-is, f, verdict-is here, dropped-is, lies-is))
 
         stored-says : fills sender (headOf p) ≡ false → (messageTold (answerTo w p), partTo w p) ≡ messageSays q log p
         stored-says f = unfold messageAnswer taken admitted heldAfter messageSays in rw (← number-says, none, at-place, ← fills-is, f, held-is-length, dropped-is)

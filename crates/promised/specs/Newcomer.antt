@@ -41,7 +41,7 @@ pub record Replaces (opened : Name) (fresh told : MessageTold) : Type 0 where
 
 -- "18" where it would be stored or delivered, and otherwise what it would be told: "17 still comes first."
 pub record Late (fresh told : MessageTold) : Type 0 where
-  pub eighteen : fresh .outcome .number ≤ 1 → told ≡ messageRefused 18
+  pub eighteen : fresh .outcome .number ≤ 1 → told ≡ messageRefused 18 0
   pub lower : 1 < fresh .outcome .number → told ≡ fresh
 
 pub record Newcomer (newcomer opened : Name) (fresh told : MessageTold) : Type 0 where

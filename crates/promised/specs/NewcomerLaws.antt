@@ -18,7 +18,7 @@ use Rattle.header.specs.Head.{headOf}
 use Rattle.state.specs.declared.Address.{Address}
 use Rattle.state.specs.Table.{source}
 use Rattle.answers.specs.declared.Setup.{Setup}
-use Rattle.answers.specs.Told.{MessageTold, messageRefused}
+use Rattle.answers.specs.Told.{ageWith, MessageTold, messageRefused}
 use Rattle.rules.specs.calls.First.{Row, row, first}
 use Rattle.rules.specs.calls.FirstLaws.{numbered, first-here, first-later, first-append}
 use Rattle.promised.specs.Join.{kinOf}
@@ -70,7 +70,7 @@ module _ (q : Setup) (i : ℕ) (verdict : Verdict) (last : List ℕ) (others : L
   taken ps = accepted i verdict (droppedName ps packet) (acceptedWith ps packet) packet
 
   abbrev toldBy : ℕ → List (List ℕ) → MessageTold
-  toldBy k ps = cond (eqb k 0) (taken ps) (messageRefused k, []) .0
+  toldBy k ps = cond (eqb k 0) (taken ps) (messageRefused k (ageWith k verdict), []) .0
 
   abbrev told : List (List ℕ) → MessageTold
   told ps = messageBy q i verdict ps packet .0
@@ -81,10 +81,10 @@ module _ (q : Setup) (i : ℕ) (verdict : Verdict) (last : List ℕ) (others : L
   told-is : (ps : List (List ℕ)) (k : ℕ) → cond (eqb given 0) (first (ownRows ps)) given ≡ k → told ps ≡ toldBy k ps
   told-is ps k e = ap (λ (n : ℕ). toldBy n ps) (first-append lowerRows (ownRows ps) (unfold numbered in refl) ∙ e)
 
-  refused-is : (ps : List (List ℕ)) (k : ℕ) → k ≢ 0 → toldBy k ps ≡ messageRefused k
-  refused-is ps k some = ap (λ (b : Bool). cond b (taken ps) (messageRefused k, []) .0) (ne-eqb k 0 some)
+  refused-is : (ps : List (List ℕ)) (k : ℕ) → k ≢ 0 → toldBy k ps ≡ messageRefused k (ageWith k verdict)
+  refused-is ps k some = ap (λ (b : Bool). cond b (taken ps) (messageRefused k (ageWith k verdict), []) .0) (ne-eqb k 0 some)
 
-  told-lower : (ps : List (List ℕ)) → 12 ≤ given → told ps ≡ messageRefused given
+  told-lower : (ps : List (List ℕ)) → 12 ≤ given → told ps ≡ messageRefused given (ageWith given verdict)
   told-lower ps low =
       let some : given ≢ 0 = λ e. omega (arith, e, low) in
       told-is ps given (rw (ne-eqb given 0 some)) ∙ refused-is ps given some

@@ -188,7 +188,7 @@ module _ (g : Settings) (m : Sent) (k : Cuttable m) (admits : eqb (m .mode) 1 &&
     outcome-more clear not-all =
         rw (outcomeView, number-clear clear, fills-by clear, ne-eqb (grown clear) (fullMap (count m)) (λ e. not-all (full-all clear e)))
 
-    outcome-held : C c → outcomeView g v p ≡ Refused 20
+    outcome-held : C c → outcomeView g v p ≡ Refused 20 0
     unfolding admission notAdmitted
     outcome-held e = rw (outcomeView, number-held e)
 
@@ -205,11 +205,13 @@ module _ (g : Settings) (m : Sent) (k : Cuttable m) (admits : eqb (m .mode) 1 &&
   -- ---- once it was delivered
 
   module _ (f : Finished m C s) where
-    number-finished : 1 ≤ g .n1 → m .version .0 ≢ 0 → numberOf g v p ≡ 17
-    number-finished one some =
+    again : 1 ≤ g .n1 → m .version .0 ≢ 0 → verdictBy (g .n1) m (s .last) ≡ Repeat 0
+    again one some =
         let last-is = f .last-is some in
-        let again : verdictBy (g .n1) m (s .last) ≡ Repeat = rw (same-version (last-is .0), same-number (last-is .1)) (check-again (g .n1) (m .version) (m .number) some one) in
-        number-again (g .test) (g .n1) m k admits s c p is (rw again)
+        rw (same-version (last-is .0), same-number (last-is .1)) (check-again (g .n1) (m .version) (m .number) some one)
+
+    number-finished : 1 ≤ g .n1 → m .version .0 ≢ 0 → numberOf g v p ≡ 17
+    number-finished one some = number-again (g .test) (g .n1) m k admits s c p is (rw (again one some))
 
     finished-next : 1 ≤ g .n1 → Finished m With (nextView g v p .sender)
     unfolding nextView
@@ -233,14 +235,14 @@ module _ (g : Settings) (m : Sent) (k : Cuttable m) (admits : eqb (m .mode) 1 &&
   phase-more (inl f) none d numbered ne missing = outcome-more f (not-held f none) (λ all. ⊎-elim missing ne (all d numbered))
   phase-more (inr f) none d numbered ne missing = absurd (none (f .all c (is .numbered)))
 
-  pub phase-held : Phase m last C s → C c → (d : ℕ) → Numbered m d → (C d → ⊥) → outcomeView g v p ≡ Refused 20
+  pub phase-held : Phase m last C s → C c → (d : ℕ) → Numbered m d → (C d → ⊥) → outcomeView g v p ≡ Refused 20 0
   phase-held (inl f) here d numbered missing = outcome-held f here
   phase-held (inr f) here d numbered missing = absurd (missing (f .all d numbered))
 
-  pub phase-once : 1 ≤ g .n1 → m .version .0 ≢ 0 → Phase m last C s → ((d : ℕ) → Numbered m d → C d) → outcomeView g v p ≡ Refused 17
+  pub phase-once : 1 ≤ g .n1 → m .version .0 ≢ 0 → Phase m last C s → ((d : ℕ) → Numbered m d → C d) → outcomeView g v p ≡ Refused 17 0
   unfolding admission notAdmitted
   phase-once one some (inl f) all = absurd (some-missing f all)
-  phase-once one some (inr f) all = rw (outcomeView, number-finished f one some)
+  phase-once one some (inr f) all = rw (outcomeView, number-finished f one some, verdict-is (g .test) (g .n1) m k admits s c p is, again f one some)
 
 -- ---- a clock call that keeps the message
 

@@ -27,12 +27,13 @@ use Rattle.state.specs.State.{senderAt, Settings}
 use Rattle.state.specs.Table.{source, found}
 use Rattle.answers.specs.declared.Answer.{Answer}
 use Rattle.answers.specs.declared.Outcome.the-variants.{Refused, Stored, Delivered}
+use Rattle.answers.specs.Told.{refusal}
 use Rattle.promised.specs.Judged.{hasLength, isMessage, inOrder, isFrom}
 use Rattle.rules.specs.calls.Admit.{rejoins, fills, admitted}
 use Rattle.rules.specs.calls.AdmitLaws.{admitted-facts}
 use Rattle.promised.specs.Join.{Joined, behind}
 use Rattle.promised.specs.JoinLaws.{Inv, partView, delivered-joined}
-use Rattle.rules.specs.calls.Message.{area, messageNumber, messageAnswer, messageStorage, storageAfter, liesAt, taken, refused}
+use Rattle.rules.specs.calls.Message.{area, messageNumber, verdictAt, messageAnswer, messageStorage, storageAfter, liesAt, taken, refused}
 use Rattle.rules.specs.calls.MessageLaws.{Passed, taken-facts}
 use Rattle.rules.specs.calls.Part.{partOf, storedPart}
 use Rattle.rules.specs.pasts.Past.{World, answerTo, partTo, Start}
@@ -54,14 +55,14 @@ module _ (w : World) (sound : Sound w) (p : List ℕ) (vd : Verdict) (gave : mes
   none : messageNumber (w .state) (length (w .storage)) p ≡ 0
   none = ⊎-elim
       (λ z. z)
-      (λ (z : messageNumber (w .state) (length (w .storage)) p ≢ 0). absurd (not-refused _ (sym (refused-is z) ∙ gave)))
+      (λ (z : messageNumber (w .state) (length (w .storage)) p ≢ 0). absurd (not-refused _ _ (sym (refused-is z) ∙ gave)))
       (eq-or-ne (messageNumber (w .state) (length (w .storage)) p) 0)
     where
-      refused-is : messageNumber (w .state) (length (w .storage)) p ≢ 0 → answer .outcome ≡ Refused (messageNumber (w .state) (length (w .storage)) p)
+      refused-is : messageNumber (w .state) (length (w .storage)) p ≢ 0 → answer .outcome ≡ refusal (messageNumber (w .state) (length (w .storage)) p) (verdictAt (w .state) h)
       refused-is z = unfold messageAnswer refused in rw (ne-eqb (messageNumber (w .state) (length (w .storage)) p) 0 z)
 
-      not-refused : (k : ℕ) → Refused k ≡ Delivered vd → ⊥
-      not-refused k e = let z : _≡_ {A = ℕ} 0 1 = cc in omega arith
+      not-refused : (k age : ℕ) → Refused k age ≡ Delivered vd → ⊥
+      not-refused k age e = let z : _≡_ {A = ℕ} 0 1 = cc in omega arith
 
   passed : Passed (valid (w .state)) (w .state .count) i (length (w .storage)) p h
   passed = taken-facts (w .state) (length (w .storage)) p none .0

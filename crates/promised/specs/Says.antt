@@ -19,7 +19,7 @@ use Rattle.state.specs.declared.Address.{Address}
 use Rattle.state.specs.Limits.{sameAddress, given}
 use Rattle.state.specs.Table.{source}
 use Rattle.answers.specs.declared.Setup.{Setup}
-use Rattle.answers.specs.Told.{notDelivered, deliveredAs, WhereTold, nothingHanded, MessageTold, messageRefused, GroupTold, groupRefused, ClockTold, clockRefused, QuestionTold, noneOpen}
+use Rattle.answers.specs.Told.{notDelivered, deliveredAs, ageWith, WhereTold, nothingHanded, MessageTold, messageRefused, GroupTold, groupRefused, ClockTold, clockRefused, QuestionTold, noneOpen}
 use Rattle.rules.specs.calls.First.{Row, row, first}
 use Rattle.rules.specs.calls.Multicast.{Tables, entryPlace, entryAt, withEntry, tablesWithin, onePiece}
 use Rattle.rules.specs.calls.Setup.{setupWithin}
@@ -113,7 +113,7 @@ accepted i verdict dropped with packet = cond (eqb (length with) (kinOf packet .
   joined (kinOf packet .tbn) (octetsOf with),
 ) (
   record {
-    outcome = notDelivered 0;
+    outcome = notDelivered 0 0;
     held = length with;
     droppedVersion = dropped .version .0;
     droppedNumber = dropped .number .0;
@@ -122,11 +122,11 @@ accepted i verdict dropped with packet = cond (eqb (length with) (kinOf packet .
   [],
 )
 
--- "The lowest number that applies is given."
+-- "The lowest number that applies is given.", and with 17 how far back the number lies.
 abbrev pub messageBy : Setup → ℕ → Verdict → List (List ℕ) → List ℕ → MessageTold × List ℕ
 messageBy q i verdict packets packet =
     let k = first (rowsFor q verdict packets packet) in
-    cond (eqb k 0) (accepted i verdict (droppedName packets packet) (acceptedWith packets packet) packet) (messageRefused k, [])
+    cond (eqb k 0) (accepted i verdict (droppedName packets packet) (acceptedWith packets packet) packet) (messageRefused k (ageWith k verdict), [])
 
 -- What the number check says of a message, after deliveries.
 abbrev pub verdictAfter : Setup → Name → Name → Verdict
@@ -180,7 +180,7 @@ castBy q right verdict t g packet =
       record { outcome = deliveredAs verdict; lies = record { slice = 1; start = 0; length = 0 } },
       cond (isUnchecked verdict) t (withEntry t (entryFor q g packet) (nameOf packet .version) (nameOf packet .number)),
       drop 64 packet,
-    ) (groupRefused k, t, [])
+    ) (groupRefused k (ageWith k verdict), t, [])
 
 -- Whatever tables are lent.
 unfoldable pub castSays : Setup → Tables → ℕ → List ℕ → GroupTold × Tables × List ℕ

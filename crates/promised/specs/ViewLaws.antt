@@ -224,7 +224,7 @@ module _ (w : World) (sound : Sound w) (i : ℕ) (here : i < w .state .count) wh
     unfolding view messageAnswer taken refused admission notAdmitted
     outcome-is = ⊎-elim
         (λ (e : numberOf g v packet ≡ 0). rw (outcomeView, number-is, eq-eqb (numberOf g v packet) 0 e, at-place, outcome-joining (w .state .n1) (w .state .clock) s (headOf packet)))
-        (λ (e : numberOf g v packet ≢ 0). rw (outcomeView, number-is, ne-eqb (numberOf g v packet) 0 e))
+        (λ (e : numberOf g v packet ≢ 0). rw (outcomeView, number-is, ne-eqb (numberOf g v packet) 0 e, at-place))
         (eq-or-ne (numberOf g v packet) 0)
 
   -- ---- another's packet

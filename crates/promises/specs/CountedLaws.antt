@@ -48,13 +48,13 @@ tells : {t : Tally} {w : World} {packet : List ℕ} {r : Answer} {s : Tally} {v 
 tells {w = w} {packet = packet} m = subst (λ (a : Answer). OutcomeTells (a .outcome)) (sym (m .called .answered)) (message-tells (w .state) (w .storage) packet)
 
 either-told : (o : Outcome) → OutcomeTells o → (outcomeTold o .number ≤ 1) ⊎ (leastRefusal ≤ outcomeTold o .number)
-either-told (Refused k) more = inr more
+either-told (Refused k age) more = inr more
 either-told Stored _ = inl (omega arith)
 either-told (Delivered v) _ = inl (omega arith)
 
 answer-counted : (t : Tally) (o : Outcome) → OutcomeTells o → outcomeTold o .number ≤ 1
     → counted t o ≡ record { answers = min (t .answers + 1) 4294967295; refusals = t .refusals }
-answer-counted t (Refused k) more few = absurd (omega (arith, more, few))
+answer-counted t (Refused k age) more few = absurd (omega (arith, more, few))
 answer-counted t Stored _ few = refl
 answer-counted t (Delivered v) _ few = refl
 
@@ -76,13 +76,13 @@ one-counted t w packet r s v m = record {
 
 answers-by-one : (t : Tally) → t .answers ≤ 4294967295 → (o : Outcome) → OutcomeTells o
     → counted t o .answers ≡ min (t .answers + cond (leb (outcomeTold o .number) 1) 1 0) 4294967295
-answers-by-one t h (Refused k) more = rw (lt-leb k 1 (omega (arith, more))) (omega (arith, h))
+answers-by-one t h (Refused k age) more = rw (lt-leb k 1 (omega (arith, more))) (omega (arith, h))
 answers-by-one t h Stored _ = refl
 answers-by-one t h (Delivered v) _ = refl
 
 refusals-by-one : (t : Tally) → t .refusals ≤ 4294967295 → (o : Outcome) → OutcomeTells o
     → counted t o .refusals ≡ min (t .refusals + cond (leb leastRefusal (outcomeTold o .number)) 1 0) 4294967295
-refusals-by-one t h (Refused k) more = rw (le-leb 9 k more) refl
+refusals-by-one t h (Refused k age) more = rw (le-leb 9 k more) refl
 refusals-by-one t h Stored _ = omega (arith, h)
 refusals-by-one t h (Delivered v) _ = omega (arith, h)
 

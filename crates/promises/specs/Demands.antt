@@ -11,7 +11,7 @@ use mathlib.Core.Logic.{_≢_, _⊎_}
 use mathlib.Core.Bool.{Bool, true, false, not, cond}
 use mathlib.Core.List.{List, [], _∷_, _++_, map, List·Memᴰ}
 use lib.Count.{ones}
-use lib.Dec.{ltb}
+use lib.Dec.{eqb, ltb}
 use lib.ListN.{length, take, drop, getD, replicate}
 use lib.Pow.{areBytes}
 use Rattle.octets.specs.Run.{run}
@@ -39,7 +39,7 @@ use Rattle.state.specs.State.{emptyReceiver, senderAt}
 use Rattle.state.specs.Table.{source, found}
 use Rattle.answers.specs.declared.Setup.{Setup}
 use Rattle.answers.specs.declared.Started.{Started}
-use Rattle.answers.specs.Told.{RefusedAs, deliveredAs, HasVerdict, nothingHanded, messageTold, messageRefused, groupTold, groupRefused, callNumber, clockTold, clockRefused, questionTold, noneOpen, OutcomeTells, CallTells, MissingTells}
+use Rattle.answers.specs.Told.{RefusedAs, OutcomeTold, deliveredAs, HasVerdict, nothingHanded, messageTold, messageRefused, groupTold, groupRefused, callNumber, clockTold, clockRefused, questionTold, noneOpen, OutcomeTells, CallTells, MissingTells}
 use Rattle.rules.specs.calls.Alive.{aliveRows}
 use Rattle.rules.specs.calls.Clock.{clockRows}
 use Rattle.rules.specs.calls.First.{Row, row}
@@ -50,11 +50,12 @@ use Rattle.rules.specs.calls.Question.{questionRows}
 use Rattle.rules.specs.calls.Setup.{setupWithin}
 use Rattle.rules.specs.pasts.Listings as listings
 use Rattle.rules.specs.pasts.Past.{World, Event, message, alive, clock, aside, question, multicast, Said, Answers}
+use Rattle.promised.specs.Age.{HowOld}
 use Rattle.promised.specs.AlivePast.{AliveBy}
 use Rattle.promised.specs.Delivery.{Sent, sentBy, Numbered, PieceOf, May, Between, OnlyPieces, verdictFor, OneApplies, Arrives, Once, Listed}
 use Rattle.promised.specs.HandedOn.{HandedOn, lastHeard, castAfter}
 use Rattle.promised.specs.Join.{Joined}
-use Rattle.promised.specs.Log.{toldBy, Exchange, logged, Name, nameOf, deliveries, casts, lastCast, acceptedWith, openOf, lifeOf}
+use Rattle.promised.specs.Log.{toldBy, Exchange, logged, Name, nameOf, deliveries, lastOf, casts, lastCast, acceptedWith, openOf, lifeOf}
 use Rattle.promised.specs.Newcomer.{Under, freshTold, Newcomer}
 use Rattle.promised.specs.Says.{sendersOf, groupsOf, placeOf, hasTables, nameAt, verdictAfter, heldSays, says, logOf}
 use Rattle.promises.specs.AsPrinted.{CuttingAsPrinted}
@@ -72,14 +73,18 @@ numberIn (clock ms) r = clockTold r .number
 numberIn (aside question) r = questionTold r .number
 numberIn (aside (multicast t g packet)) r = groupTold (r .0) .outcome .number
 
+-- 02, Item 6: only 17 has an age. What it is says `AgeSaid`, and of a packet to a group `AgeHeard`.
+abbrev pub ageOnly : ℕ → OutcomeTold → ℕ
+ageOnly k t = cond (eqb k 17) (t .age) 0
+
 -- and that nothing more was than number k: "any other answer gives an empty part", "(both 0 on a refusal)".
 abbrev pub NothingMore : (e : Event) → Said e → ℕ → Type 0
-NothingMore (message packet) r k = (messageTold (r .0) ≡ messageRefused k) × (r .1 ≡ [])
+NothingMore (message packet) r k = (messageTold (r .0) ≡ messageRefused k (ageOnly k (messageTold (r .0) .outcome))) × (r .1 ≡ [])
 NothingMore (alive packet) r k = callNumber (r .call) ≡ k
 NothingMore (clock ms) r k = clockTold r ≡ clockRefused k
 NothingMore (aside question) r k = questionTold r ≡ noneOpen k
 -- 02, Item 5: and no entry of either table changes.
-NothingMore (aside (multicast t g packet)) r k = (groupTold (r .0) ≡ groupRefused k) × (r .1 ≡ t) × (r .2 ≡ [])
+NothingMore (aside (multicast t g packet)) r k = (groupTold (r .0) ≡ groupRefused k (ageOnly k (groupTold (r .0) .outcome))) × (r .1 ≡ t) × (r .2 ≡ [])
 
 -- Number k was answered, and is a refusal's.
 abbrev pub RefusedWith : (e : Event) → Said e → ℕ → Type 0
@@ -408,6 +413,19 @@ GroupDelivers = WithTables (λ q begun log v t. (g : ℕ) (h : Given) (octets pa
 abbrev pub CutToGroup : Type 0
 CutToGroup = (g : Given) → Words g → (octets : List ℕ) (u : ℕ) (packet : List ℕ) → length octets ≤ u → Cut g octets u 1 packet → GroupPdu g octets packet
 
+-- ---- 02, Item 6: how old was the repeat
+
+-- "how far back the number lies, 0 to N1 − 1": behind the number last delivered of its sender,
+abbrev pub AgeSaid : Type 0
+AgeSaid = AfterPast (λ q log v. (packet : List ℕ) (r : Said (message packet)) (u : World) → Meets v (message packet) r u
+    → HowOld (q .n1) (lastOf (source (headOf packet)) (deliveries log) .number) (nameOf packet .number) (messageTold (r .0) .outcome))
+
+-- "multicast too": of its sender, to this group with its priority.
+abbrev pub AgeHeard : Type 0
+AgeHeard = WithTables (λ q begun log v t. (g : ℕ) (packet : List ℕ) (r : Said (aside (multicast t g packet))) (u : World)
+    → Meets v (aside (multicast t g packet)) r u
+    → HowOld (q .n1) (lastHeard q begun log g packet .number) (nameOf packet .number) (groupTold (r .0) .outcome))
+
 -- ---- uniqueness, and the edges
 
 -- "Uniqueness is itself proved": of two programs, or of one that runs twice, the same calls get the same answers and
@@ -492,6 +510,8 @@ pub record Demands : Type 0 where
   pub cast-said : CastSaid
   pub group-delivers : GroupDelivers
   pub cut-to-group : CutToGroup
+  pub age-said : AgeSaid
+  pub age-heard : AgeHeard
   pub one-reading : OneReading
   pub one-writing : OneWriting
   pub one-course : OneCourse

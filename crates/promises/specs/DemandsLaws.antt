@@ -38,7 +38,9 @@ use Rattle.answers.specs.declared.Setup.{Setup}
 use Rattle.answers.specs.declared.Where.the-variants as lies
 use Rattle.answers.specs.declared.Started.{Started}
 use Rattle.answers.specs.declared.Ticked.{Ticked}
-use Rattle.answers.specs.Told.{leastRefusal, RefusedAs, OutcomeTold, outcomeTold, whereTold, HasVerdict, MessageTold, messageTold, groupTold, callNumber, clockTold, questionTold, CallTells}
+use Rattle.answers.specs.Told.{leastRefusal, RefusedAs, OutcomeTold, outcomeTold, whereTold, HasVerdict, MessageTold, messageTold, messageRefused, groupTold, groupRefused, callNumber, clockTold, questionTold, CallTells}
+use Rattle.promised.specs.Age.{HowOld}
+use Rattle.promised.specs.AgeLaws.{message-age}
 use Rattle.promised.specs.AlivePast.{AliveBy}
 use Rattle.rules.specs.calls.Admit.{senderRows, verdictOf, admitted, fills}
 use Rattle.rules.specs.calls.AdmitLaws.{admitted-facts}
@@ -55,7 +57,7 @@ use Rattle.promised.specs.PastSaysLaws.{says-is, agrees-after, log-is, alive-to
 use Rattle.promised.specs.MessageSaysLaws.{safe}
 use Rattle.promised.specs.Says.{sendersOf, placeOf, says}
 use Rattle.promised.specs.SaysLaws.{held-says}
-use Rattle.promised.specs.Log.{toldBy, Exchange, logged, nameOf, deliveries, acceptedWith, openOf, lifeOf}
+use Rattle.promised.specs.Log.{toldBy, Exchange, logged, nameOf, deliveries, lastOf, acceptedWith, openOf, lifeOf}
 use Rattle.rules.specs.calls.ExactlyLaws.{message-refuses, message-given, alive-refuses, alive-given, clock-refuses, clock-given, question-refuses, question-given, multicast-above, multicast-refuses, multicast-given, multicast-tells, setup-refuses, setup-given, message-tells, alive-tells, clock-tells, question-tells, setup-tells}
 use Rattle.rules.specs.calls.First.{Row, row, Given}
 use Rattle.rules.specs.calls.FirstLaws.{above, given-above, first-given, first-neither, numbered}
@@ -67,7 +69,7 @@ use Rattle.rules.specs.pasts.PastLaws.{Sound}
 use Rattle.rules.specs.calls.Setup.{setupWithin}
 use Rattle.promises.specs.Course.{SetupMeets, Course}
 use Rattle.promises.specs.CourseLaws.{one-call, one-course, next-call, course-start, course-sound}
-use Rattle.promises.specs.Demands.{numberIn, NothingMore, rowsOf, Refuses, CallsRefuse, SetupRefuses, CutterRefuses, Tells, NumbersTell, VerdictTold, NothingHanded, NeverNine, EverySaid, LogIs, WhoIsAlive, DeliveredOnce, ListedOnce, Safety, HeldSaid, HeldIsOnes, DifferMeetsNine, NewcomerSaid}
+use Rattle.promises.specs.Demands.{numberIn, NothingMore, rowsOf, Refuses, CallsRefuse, SetupRefuses, CutterRefuses, Tells, NumbersTell, VerdictTold, NothingHanded, NeverNine, EverySaid, LogIs, WhoIsAlive, DeliveredOnce, ListedOnce, Safety, HeldSaid, HeldIsOnes, DifferMeetsNine, NewcomerSaid, AgeSaid}
 
 -- ---- demand 1
 
@@ -83,6 +85,14 @@ rows-above w (aside (multicast t g packet)) = multicast-above (w .state) t g pac
 least : (w : World) (e : Event) (k : ℕ) → Given (rowsOf w e) k → leastRefusal ≤ k
 least w e k g = omega (arith, given-above 8 (rowsOf w e) k (rows-above w e) g)
 
+-- Whether it is 17 is asked once or twice.
+asked-once : (k age : ℕ) → cond (eqb k 17) age 0 ≡ cond (eqb k 17) (cond (eqb k 17) age 0) 0
+asked-once k age = by (eqb k 17)
+  where
+    by : (b : Bool) → cond b age 0 ≡ cond b (cond b age 0) 0
+    by true = refl
+    by false = refl
+
 said-refuses : (w : World) (e : Event) → Refuses (rowsOf w e) (numberIn e (said w e)) (λ k. NothingMore e (said w e) k × (step w e ≡ w))
 unfolding said step
 said-refuses w (message packet) = record {
@@ -91,7 +101,7 @@ said-refuses w (message packet) = record {
       (ap (λ (x : Answer). messageTold x .outcome .number) (message-refuses (w .state) (w .storage) packet k g .0), least w (message packet) k g);
   nothing = λ k e. unfold refused in
       let f = message-refuses (w .state) (w .storage) packet k (message-given (w .state) (w .storage) packet k e) in
-      ((rw (f .0), rw (f .0)), rw (f .0, f .1));
+      ((rw (f .0) (ap (messageRefused k) (asked-once k _)), rw (f .0)), rw (f .0, f .1));
 }
 said-refuses w (alive packet) = record {
   only-if = alive-given (w .state) packet;
@@ -116,7 +126,7 @@ said-refuses w (aside (multicast t g packet)) = record {
       (ap (λ (x : GroupAnswer). groupTold x .outcome .number) (multicast-refuses (w .state) t g packet k given .0), least w (aside (multicast t g packet)) k given);
   nothing = λ k e.
       let f = multicast-refuses (w .state) t g packet k (multicast-given (w .state) t g packet k e) in
-      ((ap groupTold (f .0), f .1, rw (f .0)), refl);
+      ((rw (f .0) (ap (groupRefused k) (asked-once k _)), f .1, rw (f .0)), refl);
 }
 
 pub calls-refuse : CallsRefuse
@@ -181,7 +191,7 @@ verdict-some : (v : Verdict) → isRepeat v ≡ false → 1 ≤ verdictNumber v
 verdict-some Unchecked e = omega arith
 verdict-some First e = omega arith
 verdict-some Restart e = omega arith
-verdict-some Repeat e = absurd (never-both refl e)
+verdict-some (Repeat d) e = absurd (never-both refl e)
 verdict-some Next e = omega arith
 verdict-some (Gap k) e = omega arith
 
@@ -276,6 +286,14 @@ newcomer-said q r w m es rs v c packet a u meets opened under =
     (ap (λ (t : MessageTold × List ℕ). t .0) (sym (every-said q r w m es rs v c (message packet) a u meets)))
     (newcomer.newcomer-said q (logged [] es rs) packet opened under)
 
+pub age-said : AgeSaid
+unfolding says
+age-said q r w m es rs v c packet a u meets =
+    let log = logged [] es rs in
+    subst (HowOld (q .n1) (lastOf (source (headOf packet)) (deliveries log) .number) (nameOf packet .number))
+    (ap (λ (t : MessageTold × List ℕ). t .0 .outcome) (sym (every-said q r w m es rs v c (message packet) a u meets)))
+    (message-age q log packet)
+
 -- Row 9 is the first of every call.
 nine-first : (b : Bool) (rs : List Row) → b ≡ false → Given (row 9 (not b) ∷ rs) 9
 unfolding Given
@@ -305,7 +323,7 @@ nothing-lies w room packet = cond-case (λ (a : Answer). messageTold a .outcome 
     (λ _ _. refl)
   where
     of-outcome : (o : Outcome) → outcomeTold o .number ≢ 1 → whereBy o (found w (headOf packet)) (headOf packet) ≡ lies.Nothing
-    of-outcome (outcome.Refused k) ne = refl
+    of-outcome (outcome.Refused k age) ne = refl
     of-outcome outcome.Stored ne = refl
     of-outcome (outcome.Delivered v) ne = absurd (ne refl)
 

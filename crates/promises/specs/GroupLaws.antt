@@ -32,6 +32,8 @@ use Rattle.rules.specs.calls.FirstLaws.{first-given}
 use Rattle.rules.specs.calls.Multicast.{Tables, entriesOf, entryPlace, entryAt, placeFor, castRows, listening, castOutcome, multicastRows, multicastTables, onePiece, tablesWithin}
 use Rattle.rules.specs.calls.MulticastLaws.{tables-of, cast-facts, head-pri, place-apart, kept-other}
 use Rattle.rules.specs.pasts.Past.{World, Event, aside, multicast, Answers}
+use Rattle.promised.specs.Age.{HowOld}
+use Rattle.promised.specs.AgeLaws.{cast-age}
 use Rattle.promised.specs.AgreesLaws.{agrees-start}
 use Rattle.promised.specs.CastLaws.{group-count}
 use Rattle.promised.specs.HandedOn.{HandedOn, lastHeard}
@@ -42,7 +44,7 @@ use Rattle.promised.specs.Says.{sendersOf, groupsOf, hasTables, rowsCast, nameA
 use Rattle.promises.specs.ComesBackLaws.{packet-is}
 use Rattle.promises.specs.Course.{SetupMeets, Course}
 use Rattle.promises.specs.CourseLaws.{one-course, course-start}
-use Rattle.promises.specs.Demands.{OwnEntryOnly, EntryIsLast, ZerosPass, NeverTwentySix, CastSaid, GroupPdu, MayReach, GroupDelivers, CutToGroup}
+use Rattle.promises.specs.Demands.{OwnEntryOnly, EntryIsLast, ZerosPass, NeverTwentySix, CastSaid, GroupPdu, MayReach, GroupDelivers, CutToGroup, AgeHeard}
 use Rattle.promises.specs.DemandsLaws.{every-said, calls-refuse, not-behind, course-agrees}
 
 -- ---- after a past in which the tables were handed on
@@ -63,6 +65,13 @@ unfolding says
 cast-said q r w m es rs v c begun t right on g packet a u meets =
     every-said q r w m es rs v c (aside (multicast t g packet)) a u meets
     ∙ cast-after q begun (logged [] es rs) t (entries q r w m es rs v c begun t right on) g packet
+
+pub age-heard : AgeHeard
+age-heard q r w m es rs v c begun t right on g packet a u meets =
+    let log = logged [] es rs in
+    let told = cast-said q r w m es rs v c begun t right on g packet a u meets in
+    subst (HowOld (q .n1) (lastHeard q begun log g packet .number) (nameOf packet .number)) (sym (ap (λ (x : GroupTold × Tables × List ℕ). x .0 .outcome) told))
+    (cast-age q (lastHeard q begun log g packet) packet true t g)
 
 -- ---- 26
 

@@ -36,7 +36,10 @@ pub fn message(mut state: Receiver, storage: &mut [u8], packet: &[u8]) -> Answer
     let early = packet_number(look.valid, state.count, at, storage.len(), packet, h);
     if early != 0 {
         return Answer {
-            outcome: Outcome::Refused(early),
+            outcome: Outcome::Refused {
+                number: early,
+                age: 0,
+            },
             held: 0,
             dropped: Dropped::NONE,
             lies: Where::Nothing,
@@ -49,7 +52,7 @@ pub fn message(mut state: Receiver, storage: &mut [u8], packet: &[u8]) -> Answer
     let late = outcome.refusal();
     if late != 0 {
         return Answer {
-            outcome: Outcome::Refused(late),
+            outcome,
             held: 0,
             dropped: Dropped::NONE,
             lies: Where::Nothing,
@@ -104,7 +107,7 @@ pub fn where_to(o: Outcome, at: u8, h: Head) -> Where
     ensures { λ r. ⌜ r ≡ whereBy o at h ⌝ }
 {
     match o {
-        Outcome::Refused(_) => Where::Nothing,
+        Outcome::Refused { number: _, age: _ } => Where::Nothing,
         Outcome::Stored => Where::Nothing,
         Outcome::Delivered(_) => lies(at, h),
     }

@@ -12,9 +12,10 @@ use Rattle.ring.specs.declared.Verdict.the-variants.{Unchecked, First, R
 use Rattle.ring.specs.Ring.{M, back, skipped}
 
 -- "4. Let d be the remainder of R − SEQ by M, 0 to M − 1. d < N1: repeat. d = M − 1: next. Otherwise gap, with (SEQ − R
--- − 1) modulo M numbers skipped."
+-- − 1) modulo M numbers skipped." 02, Item 6: "When the number check says repeat, it should also give how far back the number
+-- lies": d itself.
 unfoldable pub rule4 : ℕ → Number → Number → Verdict
-rule4 n1 r s = cond (ltb (back r s) n1) Repeat (cond (eqb (back r s) (M - 1)) Next (Gap (skipped r s)))
+rule4 n1 r s = cond (ltb (back r s) n1) (Repeat (back r s)) (cond (eqb (back r s) (M - 1)) Next (Gap (skipped r s)))
 
 -- "1. V_SEQ = 0 and SEQ = 1: unchecked. 2. RV = 0: first. 3. V_SEQ differs from RV: restart. 4. …"
 unfoldable pub check : ℕ → Version → Number → Version → Number → Verdict
@@ -32,7 +33,7 @@ pub data Says (n1 : ℕ) (rv : Version) (r : Number) (v : Version) (s : Number) 
   rule-1 : Free v s → Says n1 rv r v s Unchecked
   rule-2 : ¬ (Free v s) → rv .0 ≡ 0 → Says n1 rv r v s First
   rule-3 : ¬ (Free v s) → rv .0 ≢ 0 → v .0 ≢ rv .0 → Says n1 rv r v s Restart
-  rule-4-repeat : ¬ (Free v s) → rv .0 ≢ 0 → v .0 ≡ rv .0 → back r s < n1 → Says n1 rv r v s Repeat
+  rule-4-repeat : ¬ (Free v s) → rv .0 ≢ 0 → v .0 ≡ rv .0 → back r s < n1 → Says n1 rv r v s (Repeat (back r s))
   rule-4-next : ¬ (Free v s) → rv .0 ≢ 0 → v .0 ≡ rv .0 → n1 ≤ back r s → back r s ≡ M - 1 → Says n1 rv r v s Next
   rule-4-gap : ¬ (Free v s) → rv .0 ≢ 0 → v .0 ≡ rv .0 → n1 ≤ back r s → back r s ≢ M - 1 → Says n1 rv r v s (Gap (skipped r s))
 
@@ -41,7 +42,7 @@ abbrev pub verdictNumber : Verdict → ℕ
 verdictNumber Unchecked = 5
 verdictNumber First = 1
 verdictNumber Restart = 3
-verdictNumber Repeat = 0
+verdictNumber (Repeat d) = 0
 verdictNumber Next = 2
 verdictNumber (Gap k) = 4
 
@@ -50,16 +51,25 @@ abbrev pub verdictSkipped : Verdict → ℕ
 verdictSkipped Unchecked = 0
 verdictSkipped First = 0
 verdictSkipped Restart = 0
-verdictSkipped Repeat = 0
+verdictSkipped (Repeat d) = 0
 verdictSkipped Next = 0
 verdictSkipped (Gap k) = k
+
+-- How far back a repeat lies: "In every other answer it is 0."
+abbrev pub verdictAge : Verdict → ℕ
+verdictAge Unchecked = 0
+verdictAge First = 0
+verdictAge Restart = 0
+verdictAge (Repeat d) = d
+verdictAge Next = 0
+verdictAge (Gap k) = 0
 
 -- "number check says repeat"
 abbrev pub isRepeat : Verdict → Bool
 isRepeat Unchecked = false
 isRepeat First = false
 isRepeat Restart = false
-isRepeat Repeat = true
+isRepeat (Repeat d) = true
 isRepeat Next = false
 isRepeat (Gap k) = false
 
@@ -68,6 +78,6 @@ abbrev pub isUnchecked : Verdict → Bool
 isUnchecked Unchecked = true
 isUnchecked First = false
 isUnchecked Restart = false
-isUnchecked Repeat = false
+isUnchecked (Repeat d) = false
 isUnchecked Next = false
 isUnchecked (Gap k) = false

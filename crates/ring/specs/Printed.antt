@@ -10,7 +10,7 @@ use Rattle.ring.specs.declared.Version.{Version}
 use Rattle.ring.specs.declared.Verdict.{Verdict}
 use Rattle.ring.specs.declared.Verdict.the-variants.{Unchecked, First, Restart, Repeat, Next, Gap}
 use Rattle.ring.specs.Ring.{newer}
-use Rattle.ring.specs.Check.{check, verdictNumber, verdictSkipped}
+use Rattle.ring.specs.Check.{check, verdictNumber, verdictSkipped, verdictAge}
 use Rattle.ring.specs.Table14.{table14, result}
 
 -- "the remainder of a − b by M, 0 to M − 1", where "M = 2,147,483,647": what leads from b to a, modulo M.
@@ -36,12 +36,12 @@ module _ (n1 : ℕ) (rv : Version) (r : Number) (v : Version) (s : Number) where
     pub is : Remainder (r .0) (s .0) d
 
   -- "In this order: 1. …: unchecked. 2. …: first. 3. …: restart. 4. … d < N1: repeat. d = M − 1: next. Otherwise gap,
-  -- with (SEQ − R − 1) modulo M numbers skipped."
+  -- with (SEQ − R − 1) modulo M numbers skipped." 02, Item 6: a repeat gives "how far back the number lies", d.
   pub data Rules : Verdict → Type 0 where
     unchecked : Rule1 → Rules Unchecked
     first : ¬ Rule1 → Rule2 → Rules First
     restart : ¬ Rule1 → ¬ Rule2 → Rule3 → Rules Restart
-    repeat : {d : ℕ} → Rule4 d → d < n1 → Rules Repeat
+    repeat : {d : ℕ} → Rule4 d → d < n1 → Rules (Repeat d)
     next : {d : ℕ} → Rule4 d → n1 ≤ d → d ≡ 2147483646 → Rules Next
     gap : {d k : ℕ} → Rule4 d → n1 ≤ d → d ≢ 2147483646 → Remainder (s .0) (r .0 + 1) k → Rules (Gap k)
 
@@ -53,9 +53,10 @@ pub record CheckAsPrinted : Type 0 where
   pub table-14 : (n1 : ℕ) (rv : Version) (r : Number) (v : Version) (s : Number) (d : ℕ) → Rule4 n1 rv r v s d
       → 1 ≤ n1 → n1 ≤ 1024 → 1 ≤ r .0 → r .0 ≤ 2147483647 → 1 ≤ s .0 → s .0 ≤ 2147483647
       → result (check n1 rv r v s) ≡ table14 n1 (r .0) (s .0)
-  -- "Verdicts: 1 first, 2 next, 3 restart, 4 gap, 5 unchecked, 0 where nothing is delivered", and what was skipped.
-  pub numbers : (k : ℕ) → map verdictNumber (First ∷ Next ∷ Restart ∷ Gap k ∷ Unchecked ∷ Repeat ∷ []) ≡ 1 ∷ 2 ∷ 3 ∷ 4 ∷ 5 ∷ 0 ∷ []
-  pub skipped : (k : ℕ) → map verdictSkipped (First ∷ Next ∷ Restart ∷ Gap k ∷ Unchecked ∷ Repeat ∷ []) ≡ 0 ∷ 0 ∷ 0 ∷ k ∷ 0 ∷ 0 ∷ []
+  -- "Verdicts: 1 first, 2 next, 3 restart, 4 gap, 5 unchecked, 0 where nothing is delivered", what was skipped, and how old.
+  pub numbers : (d k : ℕ) → map verdictNumber (First ∷ Next ∷ Restart ∷ Gap k ∷ Unchecked ∷ Repeat d ∷ []) ≡ 1 ∷ 2 ∷ 3 ∷ 4 ∷ 5 ∷ 0 ∷ []
+  pub skipped : (d k : ℕ) → map verdictSkipped (First ∷ Next ∷ Restart ∷ Gap k ∷ Unchecked ∷ Repeat d ∷ []) ≡ 0 ∷ 0 ∷ 0 ∷ k ∷ 0 ∷ 0 ∷ []
+  pub ages : (d k : ℕ) → map verdictAge (First ∷ Next ∷ Restart ∷ Gap k ∷ Unchecked ∷ Repeat d ∷ []) ≡ 0 ∷ 0 ∷ 0 ∷ 0 ∷ 0 ∷ d ∷ []
 
 -- 02, Item 3, of the newcomer's number and the open one, d being "(SEQ − open SEQ) modulo M".
 pub record NewerAsPrinted : Type 0 where

@@ -7,7 +7,7 @@ use Rattle.octets.specs.Split.{eq-or-ne}
 use Rattle.ring.specs.declared.Number.{Number}
 use Rattle.ring.specs.declared.Version.{Version}
 use Rattle.ring.specs.declared.Verdict.{Verdict}
-use Rattle.ring.specs.declared.Verdict.the-variants.{Gap}
+use Rattle.ring.specs.declared.Verdict.the-variants.{Repeat, Gap}
 use Rattle.ring.specs.Ring.{remainder, skipped}
 use Rattle.ring.specs.RingLaws.{remainder-bound, remainder-on, remainder-only, remainder-none, newer-near, newer-far, newer-none}
 use Rattle.ring.specs.Check.{Says}
@@ -40,7 +40,8 @@ module _ (n1 : ℕ) (rv : Version) (r : Number) (v : Version) (s : Number) where
   to-says (first n e) = rule-2 n e
   to-says (restart n e f) = rule-3 n e f
   to-says (repeat {d} w h) =
-      let e = remainder-is (r .0) (s .0) d (w .is) in rule-4-repeat (w .not-1) (w .not-2) (same (w .not-3)) (omega arith)
+      let e = remainder-is (r .0) (s .0) d (w .is) in
+      subst (λ (i : ℕ). Says n1 rv r v s (Repeat i)) (sym e) (rule-4-repeat (w .not-1) (w .not-2) (same (w .not-3)) (omega arith))
   to-says (next {d} w h g) =
       let e = remainder-is (r .0) (s .0) d (w .is) in rule-4-next (w .not-1) (w .not-2) (same (w .not-3)) (omega arith) (omega arith)
   to-says (gap {d} {k} w h g q) =
@@ -55,8 +56,9 @@ check-as-printed = record {
   table-14 = λ n1 rv r v s d w low high r-low r-high s-low s-high.
       ap result (check-rule4 n1 rv r v s (w .not-1) (w .not-2) (same n1 rv r v s (w .not-3)))
       ∙ rule4-is-table14 n1 r s (record { first = r-low; last = r-high }) (record { first = s-low; last = s-high }) low high;
-  numbers = λ k. refl;
-  skipped = λ k. refl;
+  numbers = λ d k. refl;
+  skipped = λ d k. refl;
+  ages = λ d k. refl;
 }
 
 pub newer-as-printed : NewerAsPrinted

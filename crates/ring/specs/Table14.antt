@@ -44,7 +44,7 @@ abbrev pub result : Verdict → Result
 result Unchecked = normal
 result First = normal
 result Restart = normal
-result Repeat = duplicated
+result (Repeat k) = duplicated
 result Next = normal
 result (Gap k) = missing
 
@@ -139,10 +139,10 @@ module _ (n1 r s : ℕ) (hr : OnRing r) (hs : OnRing s) (low : 1 ≤ n1) (high :
   rows-apart = not-both (row1 r s || row2 r s) (row3 n1 r s || row4 n1 r s)
       (λ e f. omega (arith, normal-next e, twice-repeat f))
 
-  -- Rule 4's tests, whatever is said of a gap.
-  tests-are : (k : ℕ) → result (cond (ltb d n1) Repeat (cond (eqb d (M - 1)) Next (Gap k))) ≡ table14 n1 r s
+  -- Rule 4's tests, whatever is said of a repeat and of a gap.
+  tests-are : (j k : ℕ) → result (cond (ltb d n1) (Repeat j) (cond (eqb d (M - 1)) Next (Gap k))) ≡ table14 n1 r s
   unfolding table14
-  tests-are k = ⊎-elim
+  tests-are j k = ⊎-elim
       (λ (h : d < n1).
       let x : eqb d (M - 1) ≡ false = ne-eqb d (M - 1) (λ e. omega arith) in
       simp (normal-is, duplicated-is, lt-ltb d n1 h, x))
@@ -155,4 +155,4 @@ module _ (n1 r s : ℕ) (hr : OnRing r) (hs : OnRing s) (low : 1 ≤ n1) (high :
 pub rule4-is-table14 : (n1 : ℕ) (r s : Number) → OnRing (r .0) → OnRing (s .0) → 1 ≤ n1 → n1 ≤ 1024
     → result (rule4 n1 r s) ≡ table14 n1 (r .0) (s .0)
 unfolding rule4 d
-rule4-is-table14 n1 r s hr hs low high = tests-are n1 (r .0) (s .0) hr hs low high (skipped r s)
+rule4-is-table14 n1 r s hr hs low high = tests-are n1 (r .0) (s .0) hr hs low high (remainder (r .0) (s .0)) (skipped r s)

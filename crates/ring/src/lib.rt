@@ -8,7 +8,7 @@ ghost use Prim.Native.Nat.{_-_, _%_, _<_};
 ghost use lib.Dec.{eqb, ltb};
 ghost use Rattle.ring.specs.declared.Verdict.the-variants.{Repeat, Next, Gap};
 ghost use Rattle.ring.specs.Ring.{M as last, back as backOf, newer as isNewer, isNumber};
-ghost use Rattle.ring.specs.Check.{check, verdictNumber, verdictSkipped, isRepeat, isUnchecked};
+ghost use Rattle.ring.specs.Check.{check, verdictNumber, verdictSkipped, verdictAge, isRepeat, isUnchecked};
 
 // V_SEQ: any 32-bit number.
 #[repr(C)]
@@ -28,7 +28,8 @@ pub enum Verdict {
     Unchecked,
     First,
     Restart,
-    Repeat,
+    // how far back its number lies, 0 to N1 - 1
+    Repeat(u32),
     Next,
     // how many numbers were skipped
     Gap(u32),
@@ -89,10 +90,10 @@ pub fn number_check(n1: u16, rv: Version, r: Number, v: Version, s: Number) -> V
 // Rule 4, for a number that lies d back.
 fn by_distance(n1: u16, d: u32) -> Verdict
     requires { ⌜ d < last ⌝ }
-    ensures { λ x. ⌜ x ≡ cond (ltb d n1) Repeat (cond (eqb d (last - 1)) Next (Gap (last - 1 - d))) ⌝ }
+    ensures { λ x. ⌜ x ≡ cond (ltb d n1) (Repeat d) (cond (eqb d (last - 1)) Next (Gap (last - 1 - d))) ⌝ }
 {
     if d < n1 as u32 {
-        return Verdict::Repeat;
+        return Verdict::Repeat(d);
     }
     if d == M - 1 {
         return Verdict::Next;
@@ -111,7 +112,7 @@ impl Verdict {
             Verdict::Restart => 3,
             Verdict::Gap(_) => 4,
             Verdict::Unchecked => 5,
-            Verdict::Repeat => 0,
+            Verdict::Repeat(_) => 0,
         }
     }
 
@@ -124,8 +125,22 @@ impl Verdict {
             Verdict::Unchecked => 0,
             Verdict::First => 0,
             Verdict::Restart => 0,
-            Verdict::Repeat => 0,
+            Verdict::Repeat(_) => 0,
             Verdict::Next => 0,
+        }
+    }
+
+    // How far back a repeat lies.
+    pub fn age(self) -> u32
+        ensures { λ r. ⌜ r ≡ verdictAge self ⌝ }
+    {
+        match self {
+            Verdict::Repeat(d) => d,
+            Verdict::Unchecked => 0,
+            Verdict::First => 0,
+            Verdict::Restart => 0,
+            Verdict::Next => 0,
+            Verdict::Gap(_) => 0,
         }
     }
 
@@ -136,7 +151,7 @@ impl Verdict {
             Verdict::Unchecked => false,
             Verdict::First => false,
             Verdict::Restart => false,
-            Verdict::Repeat => true,
+            Verdict::Repeat(_) => true,
             Verdict::Next => false,
             Verdict::Gap(_) => false,
         }
@@ -149,7 +164,7 @@ impl Verdict {
             Verdict::Unchecked => true,
             Verdict::First => false,
             Verdict::Restart => false,
-            Verdict::Repeat => false,
+            Verdict::Repeat(_) => false,
             Verdict::Next => false,
             Verdict::Gap(_) => false,
         }

@@ -8,6 +8,7 @@ ghost use mathlib.Core.List.{[], _∷_};
 ghost use Rattle.ring.specs.Ring.{newer as isNewer};
 ghost use Rattle.cut.specs.Possible.{possible as isPossible};
 ghost use Rattle.map.specs.Map.{holds as holdsOf};
+ghost use Rattle.answers.specs.Told.{ageWith, refusal as refused};
 ghost use Rattle.rules.specs.calls.Admit.{rejoins as isRejoining, sameCut, senderRows, sameVersion, mapAfter, keptAfter, droppedBy, lastBy, closed, messageOf, opened as isOpened, admitted, notAdmitted, admission, verdictOf};
 ghost use Rattle.rules.specs.calls.First.{row, first};
 use answers::Admission;
@@ -33,20 +34,32 @@ pub fn admit(s: Sender, test: bool, n1: u16, clock: u64, h: Head) -> Admission
 {
     let number = refusal(s, test, n1, h);
     if number != 0 {
-        return refused_by(s, number);
+        return refused_by(s, n1, h, number);
     }
     admitted_by(s, n1, clock, h)
 }
 
 // A refusal alters nothing.
-fn refused_by(s: Sender, number: u8) -> Admission
-    ensures { λ r. ⌜ r ≡ notAdmitted s number ⌝ }
+fn refused_by(s: Sender, n1: u16, h: Head, number: u8) -> Admission
+    ensures { λ r. ⌜ r ≡ notAdmitted s (refused number (verdictOf n1 s h)) ⌝ }
 {
+    let age = age_with(s, n1, h, number);
     Admission {
-        outcome: Outcome::Refused(number),
+        outcome: Outcome::Refused { number, age },
         held: 0,
         dropped: Dropped::NONE,
         sender: s,
+    }
+}
+
+// How old a repeat is: with another number nobody asks.
+fn age_with(s: Sender, n1: u16, h: Head, number: u8) -> u32
+    ensures { λ r. ⌜ r ≡ ageWith number (verdictOf n1 s h) ⌝ }
+{
+    if number == 17 {
+        verdict(s, n1, h).age()
+    } else {
+        0
     }
 }
 

@@ -24,7 +24,7 @@ module _ (t : Tally) (w : Receiver) (storage packet : List ℕ) where
   pub save-a-count : (k : ℕ) → RefusedAs (messageTold (messageAnswer w (length storage) packet) .outcome .number) k → SaveACount t w storage packet
   unfolding refused
   save-a-count k e =
-      let r : (answer ≡ refused w k) × (messageStorage w storage packet ≡ storage) = message-refuses w storage packet k (message-given w storage packet k e) in
+      let r = message-refuses w storage packet k (message-given w storage packet k e) in
       record { same-state = ap (λ (a : Answer). a .state) (r .0); same-storage = r .1; one-refusal = ap (λ (a : Answer). counted t (a .outcome)) (r .0) }
 
   -- "one count of answers 0 and 1, one of refusals": which count grows is told by 01's number alone.
@@ -33,7 +33,7 @@ module _ (t : Tally) (w : Receiver) (storage packet : List ℕ) where
   by-number = by (answer .outcome) (message-tells w storage packet)
     where
       by : (o : Outcome) → OutcomeTells o → counted t o ≡ countedBy t (outcomeTold o .number)
-      by (Refused k) more = rw (lt-leb k 1 (omega (arith, more)))
+      by (Refused k age) more = rw (lt-leb k 1 (omega (arith, more)))
       by Stored _ = refl
       by (Delivered v) _ = refl
 

@@ -49,7 +49,7 @@ pub fn counted(tally: Tally, outcome: Outcome) -> Tally
     let answers = tally.answers;
     let refusals = tally.refusals;
     match outcome {
-        Outcome::Refused(_) => Tally {
+        Outcome::Refused { number: _, age: _ } => Tally {
             answers,
             refusals: one_more(refusals),
         },

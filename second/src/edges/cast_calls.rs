@@ -64,7 +64,7 @@ impl Past {
         self.multicast_lent(self.entries_lent(), group, packet);
     }
 
-    /// "M number verdict length skipped part-sum versions-sum numbers-sum".
+    /// "M number verdict length skipped age part-sum versions-sum numbers-sum".
     pub fn multicast_lent(&mut self, lent: [usize; 2], group: u8, packet: &[u8]) {
         let [versions, numbers] = lent;
         let tables = Tables {
@@ -78,6 +78,7 @@ impl Past {
             answer.verdict.number().into(),
             delivered.len() as u32,
             answer.skipped,
+            answer.age,
             sum(delivered),
             sum_of_entries(&self.versions[..versions]),
             sum_of_entries(&self.numbers[..numbers]),

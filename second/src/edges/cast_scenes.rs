@@ -217,7 +217,8 @@ pub fn casts_in_turn(library: &mut Library) {
     }
 }
 
-/// All verdicts and repeats, at both sides of the window and of the ring's ends.
+/// All verdicts and repeats, at both sides of the window and of the ring's ends and
+/// within.
 pub fn cast_checks(library: &mut Library) {
     let spot = settled(library);
     let n1 = u64::from(library.past.receiver.n1);
@@ -226,8 +227,10 @@ pub fn cast_checks(library: &mut Library) {
         let last = number.max(1);
         let fresh = fresh_version(library, spot);
         let far = scenes::any_seq(&mut library.dice);
+        let age = scenes::any_age(library);
         let numbers = [
             (version, last),
+            (version, before(last, age)),
             (version, before(last, n1 - 1)),
             (version, before(last, n1)),
             (version, after(last, 1)),
@@ -246,6 +249,25 @@ pub fn cast_checks(library: &mut Library) {
         send(library, &checked);
     }
     library.past.tables();
+}
+
+/// Repeats of one sender, of age 0, between and N1 - 1, and at last what lies N1 back:
+/// of its messages to this node alone and of those to a group, by turns.
+pub fn ages(library: &mut Library) {
+    set_up_until(library, |state| state.groups.count > 0 && state.n1 > 2);
+    let sender = scenes::any_sender(library);
+    scenes::settle(library, sender);
+    let spot = spot_of(library, sender);
+    settle(library, spot);
+    let n1 = u64::from(library.past.receiver.n1);
+    let mut ages = [0, library.dice.between(1, n1 - 2), n1 - 1];
+    library.dice.shuffle(&mut ages);
+    for age in ages.into_iter().chain([n1]) {
+        let peer = scenes::following(library, sender, u64::from(M) - age);
+        scenes::send(library, &peer, 1);
+        let cast = following(library, spot, u64::from(M) - age);
+        send(library, &cast);
+    }
 }
 
 /// One version and number to many entries: of each it is the first, and then a
@@ -285,7 +307,8 @@ pub fn casts_among_pieces(library: &mut Library) {
 pub fn damaged_casts(library: &mut Library) {
     for _ in 0..8 {
         let spot = settled(library);
-        let steps = library.dice.one_of(&[0, 1, 1]);
+        let back = u64::from(M) - scenes::any_age(library);
+        let steps = library.dice.one_of(&[back, 1, 1]);
         let next = following(library, spot, steps);
         let (mut group, mut pdu) = (next.group, next.pdu());
         for _ in 0..library.dice.one_of(&[1, 1, 2]) {

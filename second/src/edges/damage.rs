@@ -63,7 +63,7 @@ pub fn change_state(past: &mut Past, change: impl Fn(&mut Receiver)) {
 }
 
 /// Changes the record of one sender; the field bears the whole of it.
-fn change_sender(past: &mut Past, place: usize, change: impl Fn(&mut Sender)) {
+pub fn change_sender(past: &mut Past, place: usize, change: impl Fn(&mut Sender)) {
     let sender = &mut past.receiver.senders[place];
     change(sender);
     let contents = calls::record(place, sender);

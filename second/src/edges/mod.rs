@@ -30,6 +30,7 @@ mod past;
 mod pdu;
 pub mod random;
 mod reading;
+mod repeats;
 mod section;
 mod section_rows;
 mod single;
@@ -66,5 +67,6 @@ fn every_section() -> Past {
     lent_tables::sections(&mut past);
     casting::sections(&mut past);
     entries::sections(&mut past);
+    repeats::sections(&mut past);
     past
 }

@@ -43,6 +43,8 @@ struct Busy {
     plan: Plan,
     held: usize,
     missing: usize,
+    /// A number that is a repeat.
+    repeat: u32,
     signal: Vec<u8>,
     now: u64,
     cast: Cast,
@@ -57,6 +59,8 @@ fn make_busy(library: &mut Library, online: bool) -> Busy {
         tables && !(online && state.test)
     });
     let (at, plan, pieces) = scenes::open_one(library, 10);
+    let age = scenes::any_age(library);
+    let repeat = before(plan.values.seq, 10 + age);
     scenes::hear(library, at, 1, 60);
     let spot = cast_scenes::spot_of(library, at);
     cast_scenes::settle(library, spot);
@@ -65,6 +69,7 @@ fn make_busy(library: &mut Library, online: bool) -> Busy {
         plan,
         held: pieces[0],
         missing: pieces[pieces.len() - 1],
+        repeat,
         signal: scenes::good_alive(library, at, 1, 60),
         now: library.past.receiver.clock,
         cast: cast_scenes::following(library, spot, 1),
@@ -233,7 +238,7 @@ fn wrong_packet(busy: &Busy, number: u8) -> Vec<u8> {
     let mut plan = busy.plan.clone();
     match number {
         15 => plan.values.mode = header::TEST,
-        17 => plan.values.seq = before(plan.values.seq, 10),
+        17 => plan.values.seq = busy.repeat,
         18 => plan.values.seq = before(plan.values.seq, 1),
         19 => plan.values.tcd ^= 7,
         _ => (),

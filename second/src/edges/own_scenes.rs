@@ -3,7 +3,7 @@
 //! that no past leaves.
 
 use super::cast_scenes::{
-    cast_checks, casts_among_pieces, casts_in_turn, damaged_casts, groups_past_the_count,
+    ages, cast_checks, casts_among_pieces, casts_in_turn, damaged_casts, groups_past_the_count,
     one_number_to_many, other_groups, refused_groups,
 };
 use super::cutting::cut_with;
@@ -24,7 +24,7 @@ use crate::state::{OpenMessage, Sender, Setup, AREA, SENDERS_MOST};
 pub type OwnScene = fn(&mut Library);
 
 /// The deck of them. A scene that stands twice is played twice as often.
-pub const OWN_SCENES: [OwnScene; 27] = [
+pub const OWN_SCENES: [OwnScene; 28] = [
     refused_counts,
     all_senders,
     all_senders,
@@ -42,6 +42,7 @@ pub const OWN_SCENES: [OwnScene; 27] = [
     casts_in_turn,
     cast_checks,
     cast_checks,
+    ages,
     one_number_to_many,
     casts_among_pieces,
     damaged_casts,
@@ -110,7 +111,7 @@ fn of_some_size(library: &mut Library, plan: Plan) -> Plan {
 /// "11 | message call: storage length wrong": alone, and before other numbers.
 fn storage_lengths(library: &mut Library) {
     for _ in 0..4 {
-        let mut pdu = scenes::good_pdu(library);
+        let mut pdu = scenes::good_or_repeated(library);
         if library.dice.one_in(3) {
             scenes::damage_header(&mut library.dice, &mut pdu);
         }

@@ -167,7 +167,7 @@ impl Past {
         self.message_lent(AREA * self.receiver.senders.len(), packet);
     }
 
-    /// "P number verdict held length skipped dropped-version dropped-number
+    /// "P number verdict held length skipped age dropped-version dropped-number
     /// part-sum storage-sum".
     pub fn message_lent(&mut self, lent: usize, packet: &[u8]) {
         let storage = &mut self.storage[..lent];
@@ -179,6 +179,7 @@ impl Past {
             answer.held,
             delivered.len() as u32,
             answer.skipped,
+            answer.age,
             answer.dropped_version,
             answer.dropped_number,
             sum(delivered),

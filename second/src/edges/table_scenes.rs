@@ -218,7 +218,7 @@ pub fn refused_with(library: &mut Library, good: &Cast, number: u8) -> (u8, Vec<
     let mut wrong = good.clone();
     match number {
         15 => wrong.values.mode = header::TEST,
-        17 => wrong.values.seq = scenes::before(wrong.values.seq, 1),
+        17 => wrong.values.seq = scenes::before(wrong.values.seq, 1 + scenes::any_age(library)),
         25 => wrong.group = cast_scenes::unregistered(library),
         _ => (),
     }

@@ -143,8 +143,8 @@ impl Replay {
         let sums = format!("{} {}", sum(delivered), sum(storage));
         let dropped = format!("{} {}", a.dropped_version, a.dropped_number);
         let (number, verdict, length) = (a.number, a.verdict.number(), delivered.len());
-        let (held, skipped) = (a.held, a.skipped);
-        format!("P {number} {verdict} {held} {length} {skipped} {dropped} {sums}")
+        let (held, skipped, age) = (a.held, a.skipped, a.age);
+        format!("P {number} {verdict} {held} {length} {skipped} {age} {dropped} {sums}")
     }
 
     fn clock(&mut self, mut contents: Contents) -> String {
@@ -220,7 +220,7 @@ impl Replay {
         let (verdict, length) = (a.verdict.number(), delivered.len());
         let tables = [&self.versions[..versions], &self.numbers[..numbers]];
         let [versions, numbers] = tables.map(sum_of_entries);
-        let answer = format!("{} {verdict} {length} {}", a.number, a.skipped);
+        let answer = format!("{} {verdict} {length} {} {}", a.number, a.skipped, a.age);
         format!("M {answer} {} {versions} {numbers}", sum(delivered))
     }
 

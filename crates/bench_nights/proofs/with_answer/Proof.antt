@@ -1,4 +1,4 @@
--- The answer is the sum that its four calls leave. Assumes nothing.
+-- The answer is the sum that its five calls leave. Assumes nothing.
 use borrow.Author.Needs.{needs}
 use Rattle.bench_nights.proofs.with_answer.Statement.{statement}
 use Rattle.bench_nights.proofs.with_answer.Tie as tie
@@ -18,11 +18,20 @@ cast-answer-2 c = search needs
 add-answer : tie.Need-add-answer
 add-answer c = search needs
 
-mul-answer : tie.Need-mul-answer
-mul-answer c = search needs
+age-requires : tie.Need-age-requires
+age-requires c κs = search needs
+
+cast-answer-3 : tie.Need-cast-answer-3
+cast-answer-3 c = search needs
 
 add-answer-2 : tie.Need-add-answer-2
 add-answer-2 c = search needs
+
+mul-answer : tie.Need-mul-answer
+mul-answer c = search needs
+
+add-answer-3 : tie.Need-add-answer-3
+add-answer-3 c = search needs
 
 wrapping-add-u64-requires : tie.Need-wrapping-add-u64-requires
 wrapping-add-u64-requires c κs = search needs
@@ -31,7 +40,9 @@ wrapping-add-u64-requires-2 : tie.Need-wrapping-add-u64-requires-2
 wrapping-add-u64-requires-2 c κs = search needs
 
 returns : tie.Need-returns
-returns c = simp (c .wrapping-add-u642 .ensures, c .before .wrapping-add-u64 .ensures, c .before .before .verdict .ensures, c .before .before .before .refusal .ensures)
+returns c =
+    let age = c .before .before in
+    simp (c .wrapping-add-u642 .ensures, c .before .wrapping-add-u64 .ensures, age .age .ensures, age .before .verdict .ensures, age .before .before .refusal .ensures)
 
 pub with-answer-spec : {M : Type 1} → statement M
 with-answer-spec =
@@ -42,8 +53,11 @@ with-answer-spec =
     verdict-requires
     cast-answer-2
     add-answer
-    mul-answer
+    age-requires
+    cast-answer-3
     add-answer-2
+    mul-answer
+    add-answer-3
     wrapping-add-u64-requires
     wrapping-add-u64-requires-2
     returns)

@@ -82,8 +82,8 @@ admit-requires c κs = search needs
 refusal-requires : tie.Need-refusal-requires
 refusal-requires c κs = search needs
 
-refused-requires-3 : tie.Need-refused-requires-3
-refused-requires-3 c κs = search needs
+in-numbers-requires : tie.Need-in-numbers-requires
+in-numbers-requires c κs = search needs
 
 same-length-3 : tie.Need-same-length-3
 same-length-3 c = search needs
@@ -105,7 +105,7 @@ returns-3 c =
     let counted = ap (λ (x : ℕ). x % 256) (count .at .ensures) in
     let look = look-by l _ (now (a .packet)) _ (early .early-number .ensures) (head .before .if1 .left) _ _ _ counted (place .place-of .ensures) in
     let made = rw (test .at2 .ensures, clock .at4 .ensures) at (o .admit .ensures) in
-    met-late l (now (a .storage)) (now (a .packet)) _ _ _ _ (head .read-head .ensures) (place .before .of .ensures) look counted _ (n .packet-number .ensures) (load .before .before .if2 .left) _ (load .load .ensures) _ _ _ (ap (λ (x : ℕ). x % 65536) (n1 .at3 .ensures)) (o .before .sender .ensures) made _ (c .before .before .refusal .ensures) (c .before .if3 .taken) _ (c .refused3 .ensures)
+    met-late l (now (a .storage)) (now (a .packet)) _ _ _ _ (head .read-head .ensures) (place .before .of .ensures) look counted _ (n .packet-number .ensures) (load .before .before .if2 .left) _ (load .load .ensures) _ _ _ (ap (λ (x : ℕ). x % 65536) (n1 .at3 .ensures)) (o .before .sender .ensures) made _ (c .before .before .refusal .ensures) (c .before .if3 .taken) _ (c .in-numbers .ensures)
 
 joined-requires : tie.Need-joined-requires
 joined-requires c κs = search needs
@@ -119,8 +119,8 @@ store-requires c κs = search needs
 where-to-requires : tie.Need-where-to-requires
 where-to-requires c κs = search needs
 
-in-numbers-requires : tie.Need-in-numbers-requires
-in-numbers-requires c κs = search needs
+in-numbers-requires-2 : tie.Need-in-numbers-requires-2
+in-numbers-requires-2 c κs = search needs
 
 same-length-4 : tie.Need-same-length-4
 same-length-4 c = search needs
@@ -147,7 +147,7 @@ returns-4 c =
     let made = rw (test .at2 .ensures, clock .at4 .ensures) at (o .admit .ensures) in
     let put = c .before .before .before .before .before .before .before .before .before in
     let store = c .before .before .before .before .before in
-    met-taken l (now (a .storage)) (now (a .packet)) _ _ _ _ (head .read-head .ensures) (place .before .of .ensures) look counted _ (n .packet-number .ensures) (load .before .before .if2 .left) _ (load .load .ensures) _ _ _ (ap (λ (x : ℕ). x % 65536) (n1 .at3 .ensures)) (o .before .sender .ensures) made _ (c .before .before .before .before .before .before .before .before .before .before .before .before .before .before .refusal .ensures) (c .before .before .before .before .before .before .before .before .before .before .before .before .before .if3 .left) _ _ (c .before .where-to .ensures) (store .store .ensures) _ _ (put .before .joined .ensures) (put .put .ensures) _ (c .in-numbers .ensures)
+    met-taken l (now (a .storage)) (now (a .packet)) _ _ _ _ (head .read-head .ensures) (place .before .of .ensures) look counted _ (n .packet-number .ensures) (load .before .before .if2 .left) _ (load .load .ensures) _ _ _ (ap (λ (x : ℕ). x % 65536) (n1 .at3 .ensures)) (o .before .sender .ensures) made _ (c .before .before .before .before .before .before .before .before .before .before .before .before .before .before .refusal .ensures) (c .before .before .before .before .before .before .before .before .before .before .before .before .before .if3 .left) _ _ (c .before .where-to .ensures) (store .store .ensures) _ _ (put .before .joined .ensures) (put .put .ensures) _ (c .in-numbers2 .ensures)
 
 pub adp-message-spec : {M : Type 1} → statement M
 adp-message-spec =
@@ -174,14 +174,14 @@ adp-message-spec =
     sender-requires
     admit-requires
     refusal-requires
-    refused-requires-3
+    in-numbers-requires
     same-length-3
     returns-3
     joined-requires
     put-requires
     store-requires
     where-to-requires
-    in-numbers-requires
+    in-numbers-requires-2
     same-length-4
     same-length-5
     returns-4)

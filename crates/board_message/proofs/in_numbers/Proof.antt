@@ -15,6 +15,9 @@ slice-of-requires c κs = search needs
 skipped-requires : tie.Need-skipped-requires
 skipped-requires c κs = search needs
 
+age-requires : tie.Need-age-requires
+age-requires c κs = search needs
+
 start-of-requires : tie.Need-start-of-requires
 start-of-requires c κs = search needs
 
@@ -22,7 +25,10 @@ length-of-requires : tie.Need-length-of-requires
 length-of-requires c κs = search needs
 
 returns : tie.Need-returns
-returns c = rw (c .before .before .before .before .before .number .ensures, c .before .before .before .before .verdict .ensures, c .before .before .before .slice-of .ensures, c .before .before .skipped .ensures, c .before .start-of .ensures, c .length-of .ensures)
+returns c =
+    let age = c .before .before in
+    let slice = age .before .before in
+    rw (slice .before .before .number .ensures, slice .before .verdict .ensures, slice .slice-of .ensures, age .before .skipped .ensures, age .age .ensures, c .before .start-of .ensures, c .length-of .ensures)
 
 pub in-numbers-spec : {M : Type 1} → statement M
 in-numbers-spec =
@@ -32,6 +38,7 @@ in-numbers-spec =
     verdict-requires
     slice-of-requires
     skipped-requires
+    age-requires
     start-of-requires
     length-of-requires
     returns)

@@ -16,14 +16,18 @@ number-requires c κs = search needs
 verdict-requires : tie.Need-verdict-requires
 verdict-requires c κs = search needs
 
+shown-requires : tie.Need-shown-requires
+shown-requires c κs = search needs
+
 same-length : tie.Need-same-length
 same-length c = search needs
 
 returns : tie.Need-returns
 unfolding turnOf
 returns c =
-    let m = c .before .before .before .before .before .before .before in
-    (simp (c .verdict .ensures, c .before .number .ensures, c .before .before .part .ensures, m .message .ensures .0, m .message .ensures .1), m .message .ensures .1)
+    let told = c .before in
+    let m = told .before .before .before .before .before .before .before in
+    (simp (c .shown .ensures, told .verdict .ensures, told .before .number .ensures, told .before .before .part .ensures, m .message .ensures .0, m .message .ensures .1), m .message .ensures .1)
 
 pub message-turn-spec : {M : Type 1} → statement M
 message-turn-spec =
@@ -33,5 +37,6 @@ message-turn-spec =
     part-requires
     number-requires
     verdict-requires
+    shown-requires
     same-length
     returns)

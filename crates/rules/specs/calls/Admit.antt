@@ -15,7 +15,9 @@ use Rattle.state.specs.declared.Message.{Message}
 use Rattle.state.specs.declared.Sender.{Sender}
 use Rattle.answers.specs.declared.Admission.{Admission}
 use Rattle.answers.specs.declared.Dropped.{Dropped}
-use Rattle.answers.specs.declared.Outcome.the-variants.{Refused, Stored, Delivered}
+use Rattle.answers.specs.declared.Outcome.{Outcome}
+use Rattle.answers.specs.declared.Outcome.the-variants.{Stored, Delivered}
+use Rattle.answers.specs.Told.{refusal}
 use Rattle.rules.specs.calls.First.{Row, row, first}
 use Rattle.state.specs.State.{noMessage, withMessage, withLast}
 
@@ -147,9 +149,9 @@ admitted n1 clock s h = record {
 }
 
 -- "A refusal alters no state, stamp, …"
-unfoldable pub notAdmitted : Sender → ℕ → Admission
-notAdmitted s k = record { outcome = Refused k; held = 0; dropped = noneDropped; sender = s }
+unfoldable pub notAdmitted : Sender → Outcome → Admission
+notAdmitted s o = record { outcome = o; held = 0; dropped = noneDropped; sender = s }
 
 unfoldable pub admission : Bool → ℕ → ℕ → Sender → Head → Admission
 admission test n1 clock s h =
-    cond (eqb (first (senderRows test n1 s h)) 0) (admitted n1 clock s h) (notAdmitted s (first (senderRows test n1 s h)))
+    cond (eqb (first (senderRows test n1 s h)) 0) (admitted n1 clock s h) (notAdmitted s (refusal (first (senderRows test n1 s h)) (verdictOf n1 s h)))

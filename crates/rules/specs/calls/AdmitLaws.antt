@@ -1,5 +1,5 @@
 -- Laws of admission: what is known where no number of 15 to 20 applies. Assumes nothing.
-use mathlib.Core.Path.{_≡_, refl, sym, _∙_}
+use mathlib.Core.Path.{_≡_, refl, sym, ap, _∙_}
 use mathlib.Core.Logic.{_≢_, ⊎-elim}
 use mathlib.Core.Bool.{Bool, true, false, not, cond, _&&_, _||_}
 use Prim.Native.Nat.{ℕ, suc, _+_, _-_, _^_, _≤_, _<_}
@@ -22,7 +22,7 @@ use Rattle.answers.specs.declared.Admission.{Admission}
 use Rattle.answers.specs.declared.Dropped.{Dropped}
 use Rattle.answers.specs.declared.Outcome.{Outcome}
 use Rattle.rules.specs.calls.Admit.{sameVersion, rejoins, sameCut, verdictOf, senderRows, mapBefore, mapAfter, oneMore, keptAfter, fills, noneDropped, droppedBy, admitted, notAdmitted, admission}
-use Rattle.answers.specs.Told.{refusedNumber}
+use Rattle.answers.specs.Told.{refusedNumber, refusal}
 use Rattle.rules.specs.calls.First.{first}
 use Rattle.rules.specs.calls.FirstLaws.{first-none}
 
@@ -127,7 +127,7 @@ unfolding admission
 admission-yes test n1 clock s h e = rw (eq-eqb (first (senderRows test n1 s h)) 0 e)
 
 pub admission-no : (test : Bool) (n1 clock : ℕ) (s : Sender) (h : Head) (k : ℕ) → k ≡ first (senderRows test n1 s h) → (k ≡ 0 → ⊥)
-    → notAdmitted s k ≡ admission test n1 clock s h
+    → notAdmitted s (refusal k (verdictOf n1 s h)) ≡ admission test n1 clock s h
 unfolding admission
 admission-no test n1 clock s h k e ne = rw (e, ne-eqb (first (senderRows test n1 s h)) 0 (λ z. ne (e ∙ z)))
 
@@ -141,6 +141,12 @@ pub admission-number : (test : Bool) (n1 clock : ℕ) (s : Sender) (h : Head)
 unfolding admission notAdmitted
 admission-number test n1 clock s h = by (first (senderRows test n1 s h)) (eqb (first (senderRows test n1 s h)) 0) refl
   where
-    by : (k : ℕ) (b : Bool) → eqb k 0 ≡ b → refusedNumber ((cond {A = Admission} b (admitted n1 clock s h) (notAdmitted s k)) .outcome) ≡ k
+    by : (k : ℕ) (b : Bool) → eqb k 0 ≡ b → refusedNumber ((cond {A = Admission} b (admitted n1 clock s h) (notAdmitted s (refusal k (verdictOf n1 s h)))) .outcome) ≡ k
     by k true e = admitted-zero n1 clock s h ∙ sym (eqb-true k 0 e)
     by k false e = refl
+
+-- With a refusal the outcome is that refusal.
+pub admission-refused : (test : Bool) (n1 clock : ℕ) (s : Sender) (h : Head) (k : ℕ) → k ≡ first (senderRows test n1 s h) → k ≢ 0
+    → admission test n1 clock s h .outcome ≡ refusal k (verdictOf n1 s h)
+unfolding notAdmitted
+admission-refused test n1 clock s h k e ne = sym (ap (λ (a : Admission). a .outcome) (admission-no test n1 clock s h k e ne))

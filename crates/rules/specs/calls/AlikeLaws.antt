@@ -24,7 +24,10 @@ use Rattle.state.specs.declared.Receiver.{Receiver}
 use Rattle.answers.specs.declared.Missing.{Missing}
 use Rattle.answers.specs.declared.Missing.the-variants.{Piece}
 use Rattle.answers.specs.declared.Outcome.{Outcome}
-use Rattle.rules.specs.calls.Admit.{senderRows, droppedBy, heldAfter, senderAfter, admitted}
+use Rattle.answers.specs.declared.Outcome.the-variants.{Refused}
+use Rattle.answers.specs.Told.{refusal}
+use Rattle.answers.specs.ToldLaws.{age-same}
+use Rattle.rules.specs.calls.Admit.{verdictOf, senderRows, droppedBy, heldAfter, senderAfter, admitted}
 use Rattle.rules.specs.calls.Alike.{seen, Alike, AlikeAnswer, AlikeNoted, AlikeTicked}
 use Rattle.rules.specs.calls.Alive.{aliveRows, heardBy, noted, notNoted, aliveAnswer}
 use Rattle.rules.specs.calls.Clock.{clockRows, drops, dies, aged, agedSenders, mapWhere, ticked, notTicked, clockAnswer}
@@ -32,7 +35,7 @@ use Rattle.rules.specs.calls.AliveLaws.{alive-facts}
 use Rattle.rules.specs.calls.QuestionLaws.{first-holds}
 use Rattle.rules.specs.calls.ClockLaws.{aged-done}
 use Rattle.rules.specs.calls.First.{first}
-use Rattle.rules.specs.calls.FirstLaws.{first-none, first-behind, numbered}
+use Rattle.rules.specs.calls.FirstLaws.{first-none, first-behind, numbered, without, behind-without}
 use Rattle.state.specs.Limits.{senderWithin, addressAt, sendersWithin, settingsOf, valid}
 use Rattle.state.specs.LimitsLaws.{new-ext}
 use Rattle.state.specs.Table.{found}
@@ -42,7 +45,7 @@ use Rattle.rules.specs.calls.Multicast.{Tables, castRows, castOutcome, m
 use Rattle.rules.specs.calls.MulticastLaws.{multicast-nine}
 use Rattle.rules.specs.calls.Question.{firstOpen, missingOf, questionAnswer}
 use Rattle.state.specs.State.{noSender, senderAt, firstWhere, Settings, settingsFrom, stateOf, withGroups}
-use Rattle.rules.specs.calls.SeenLaws.{LooksAtSeen, looks-same, ChangesSeen, changes-same, looks-address, looks-open, looks-message, looks-within, looks-drops, looks-dies, changes-aged, changes-heard, looks-rows, looks-dropped, looks-held, looks-outcome, changes-after}
+use Rattle.rules.specs.calls.SeenLaws.{LooksAtSeen, looks-same, ChangesSeen, changes-same, looks-address, looks-open, looks-message, looks-within, looks-drops, looks-dies, changes-aged, changes-heard, looks-verdict, looks-rows, looks-dropped, looks-held, looks-outcome, changes-after}
 use Rattle.state.specs.WithinLaws.{valid-groups, valid-length}
 
 -- What holds between the arms of two branches on one test holds between the branches.
@@ -170,16 +173,31 @@ module _ (w : Receiver) (g : Groups) (same-groups : kept (w .groups) ≡ kept g)
         alike-state = alike-changed (λ s. senderAfter (w .n1) (w .clock) s h) (changes-after h (w .n1) (w .clock)) i e q;
       }
 
+  -- What the check says is looked at with 17 alone, where the sender is registered too.
+  same-refusal : (room : ℕ) (packet : List ℕ)
+      → let h = headOf packet in
+      let k = messageNumber w room packet in
+      refusal k (verdictOf (w .n1) (senderAt w (found w h)) h) ≡ refusal k (verdictOf (w .n1) (senderAt other (found w h)) h)
+  unfolding messageRows
+  same-refusal room packet =
+      let h = headOf packet in
+      let rows = packetRows (valid w) (w .count) (found w h) room packet h in
+      ap (Refused (messageNumber w room packet)) (age-same (messageNumber w room packet) _ _ (λ e.
+      let none = behind-without 17 rows (senderRows (w .test) (w .n1) (senderAt w (found w h)) h) (λ z. omega (arith, z)) (unfold numbered in refl) (unfold without in refl) e in
+      same-sender (λ s. verdictOf (w .n1) s h) (looks-verdict h (w .n1)) (found w h) (passed-facts (valid w) (w .count) (found w h) room packet h none .registered)))
+
   alike-answer : (room : ℕ) (packet : List ℕ) → AlikeAnswer (messageAnswer w room packet) (messageAnswer other room packet)
   unfolding messageAnswer refused
   alike-answer room packet =
       let h = headOf packet in
       let i = found w h in
       let k = messageNumber w room packet in
+      let mine = refusal k (verdictOf (w .n1) (senderAt w i) h) in
+      let its = refusal k (verdictOf (w .n1) (senderAt other i) h) in
       rw (← same-number room packet, ← same-found h)
-      (cond-two AlikeAnswer (eqb k 0) (taken w i (senderAt w i) h) (refused w k) (taken other i (senderAt other i) h) (refused other k)
+      (cond-two AlikeAnswer (eqb k 0) (taken w i (senderAt w i) h) (refused w mine) (taken other i (senderAt other i) h) (refused other its)
       (λ e. let p = taken-facts w room packet (eqb-true k 0 e) .0 in alike-taken i h (p .is-valid) (p .registered))
-      (λ e. record { same-outcome = refl; same-held = refl; same-dropped = refl; same-lies = refl; alike-state = alike-tables a }))
+      (λ e. record { same-outcome = same-refusal room packet; same-held = refl; same-dropped = refl; same-lies = refl; alike-state = alike-tables a }))
 
   same-storage : (storage packet : List ℕ) → messageStorage w storage packet ≡ messageStorage other storage packet
   unfolding messageStorage

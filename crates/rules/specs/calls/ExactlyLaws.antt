@@ -16,23 +16,23 @@ use Rattle.header.specs.declared.Head.{Head}
 use Rattle.header.specs.Head.{headOf}
 use Rattle.state.specs.declared.Receiver.{Receiver}
 use Rattle.state.specs.declared.Sender.{Sender}
+use Rattle.answers.specs.declared.Answer.{Answer}
 use Rattle.answers.specs.declared.Call.the-variants as call
 use Rattle.answers.specs.declared.Listener.{Listener}
 use Rattle.answers.specs.declared.Missing.{Missing}
 use Rattle.answers.specs.declared.Missing.the-variants as missing
 use Rattle.answers.specs.declared.Outcome.{Outcome}
-use Rattle.answers.specs.declared.Outcome.the-variants as outcome
 use Rattle.answers.specs.declared.Setup.{Setup}
 use Rattle.answers.specs.declared.Started.{Started}
-use Rattle.answers.specs.Told.{leastRefusal, RefusedAs, messageTold, groupTold, callNumber, clockTold, questionTold, outcomeTold, OutcomeTells, CallTells, MissingTells}
+use Rattle.answers.specs.Told.{leastRefusal, RefusedAs, messageTold, groupTold, callNumber, clockTold, questionTold, outcomeTold, refusal, OutcomeTells, CallTells, MissingTells}
 use Rattle.rules.specs.calls.Admit.{senderRows, admitted, fills}
 use Rattle.rules.specs.calls.Alive.{aliveRows, notNoted, aliveAnswer}
 use Rattle.rules.specs.calls.Clock.{clockRows, ticked, notTicked, clockAnswer}
 use Rattle.rules.specs.calls.First.{Row, first, Given}
 use Rattle.rules.specs.calls.FirstLaws.{given-first, first-given, above, rises, given-above}
 use Rattle.state.specs.Table.{found}
-use Rattle.rules.specs.calls.Message.{messageRows, taken, refused, messageAnswer, messageStorage}
-use Rattle.rules.specs.calls.Multicast.{Tables, castRows, listening, multicastRows, castOutcome, keptBy, groupAnswer, multicastAnswer, multicastTables}
+use Rattle.rules.specs.calls.Message.{messageRows, taken, refused, verdictAt, messageAnswer, messageStorage}
+use Rattle.rules.specs.calls.Multicast.{Tables, verdictIn, castRows, listening, multicastRows, castOutcome, keptBy, groupAnswer, multicastAnswer, multicastTables}
 use Rattle.rules.specs.calls.Question.{questionRows, firstOpen, questionAnswer}
 use Rattle.rules.specs.calls.Setup.{setupWithin, setupState, setupAnswer}
 use Rattle.state.specs.State.{senderAt, emptyReceiver}
@@ -87,23 +87,26 @@ module _ (w : Receiver) (storage packet : List ℕ) where
   unfolding taken admitted
   taken-tells = cond-case OutcomeTells (fills s h) _ _ (λ _. tt) (λ _. tt)
 
+  abbrev no : ℕ → Answer
+  no k = refused w (refusal k (verdictAt w h))
+
   pub message-refuses : (k : ℕ) → Given (messageRows w (length storage) packet) k
-      → (messageAnswer w (length storage) packet ≡ refused w k) × (messageStorage w storage packet ≡ storage)
+      → (messageAnswer w (length storage) packet ≡ refused w (refusal k (verdictAt w h))) × (messageStorage w storage packet ≡ storage)
   unfolding messageAnswer messageStorage
   message-refuses k g = (
-    given-refused (messageRows w (length storage) packet) message-above _ (refused w) k g,
+    given-refused (messageRows w (length storage) packet) message-above _ no k g,
     given-refused (messageRows w (length storage) packet) message-above _ (λ j. storage) k g,
   )
 
   pub message-given : (k : ℕ) → RefusedAs (messageTold (messageAnswer w (length storage) packet) .outcome .number) k → Given (messageRows w (length storage) packet) k
   unfolding messageAnswer refused
   message-given =
-      refused-given (messageRows w (length storage) packet) message-above _ (refused w) (λ a. messageTold a .outcome .number) taken-told (λ k. refl)
+      refused-given (messageRows w (length storage) packet) message-above _ no (λ a. messageTold a .outcome .number) taken-told (λ k. refl)
 
   pub message-tells : OutcomeTells (messageAnswer w (length storage) packet .outcome)
   unfolding messageAnswer refused
   message-tells =
-      tells-by (messageRows w (length storage) packet) message-above _ (refused w) (λ a. OutcomeTells (a .outcome)) taken-tells (λ k more. more)
+      tells-by (messageRows w (length storage) packet) message-above _ no (λ a. OutcomeTells (a .outcome)) taken-tells (λ k more. more)
 
 -- ---- the alive call: 9, 12, 13, 14, 22
 
@@ -183,22 +186,25 @@ module _ (w : Receiver) (t : Tables) (g : ℕ) (packet : List ℕ) where
   unfolding castRows above
   multicast-above = refl
 
-  outcome-refused : (k : ℕ) → Given (multicastRows w t g packet) k → castOutcome heard t g packet (headOf packet) ≡ outcome.Refused k
+  abbrev unheard : ℕ → Outcome
+  unheard k = refusal k (verdictIn heard t g (headOf packet))
+
+  outcome-refused : (k : ℕ) → Given (multicastRows w t g packet) k → castOutcome heard t g packet (headOf packet) ≡ unheard k
   unfolding castOutcome
-  outcome-refused = given-refused (multicastRows w t g packet) multicast-above _ outcome.Refused
+  outcome-refused = given-refused (multicastRows w t g packet) multicast-above _ unheard
 
   pub multicast-refuses : (k : ℕ) → Given (multicastRows w t g packet) k
-      → (multicastAnswer w t g packet ≡ groupAnswer (outcome.Refused k)) × (multicastTables w t g packet ≡ t)
+      → (multicastAnswer w t g packet ≡ groupAnswer (refusal k (verdictIn (listening w (headOf packet)) t g (headOf packet)))) × (multicastTables w t g packet ≡ t)
   unfolding multicastAnswer multicastTables keptBy
   multicast-refuses k given = (rw (outcome-refused k given), rw (outcome-refused k given))
 
   pub multicast-given : (k : ℕ) → RefusedAs (groupTold (multicastAnswer w t g packet) .outcome .number) k → Given (multicastRows w t g packet) k
   unfolding multicastAnswer castOutcome
-  multicast-given = refused-given (multicastRows w t g packet) multicast-above _ outcome.Refused (λ o. outcomeTold o .number) (omega arith) (λ k. refl)
+  multicast-given = refused-given (multicastRows w t g packet) multicast-above _ unheard (λ o. outcomeTold o .number) (omega arith) (λ k. refl)
 
   pub multicast-tells : OutcomeTells (multicastAnswer w t g packet .outcome)
   unfolding multicastAnswer castOutcome
-  multicast-tells = tells-by (multicastRows w t g packet) multicast-above _ outcome.Refused OutcomeTells tt (λ k more. more)
+  multicast-tells = tells-by (multicastRows w t g packet) multicast-above _ unheard OutcomeTells tt (λ k more. more)
 
 -- ---- setup: 10
 

@@ -1,12 +1,12 @@
 -- Laws of "the first that applies". Assumes nothing.
 use mathlib.Core.Path.{_≡_, refl, sym, ap, _∙_}
 use mathlib.Core.Logic.{_≢_, inl, inr, ⊎-elim}
-use mathlib.Core.Bool.{Bool, true, false, cond, _&&_}
+use mathlib.Core.Bool.{Bool, true, false, not, cond, _&&_}
 use mathlib.Core.List.{List, [], _∷_, _++_}
 use Prim.Native.Nat.{ℕ, _<_}
 use native.Mathlib.Omega.{arith}
 use lib.Dec.{eqb, ltb}
-use borrow.Author.Tests.{ltb-true, ne-eqb, eqb-true, eqb-false}
+use borrow.Author.Tests.{ltb-true, ne-eqb, eqb-true, eqb-false, not-true}
 use Rattle.octets.specs.Split.{true-or-false, cond-case, and-left, and-right}
 use Rattle.rules.specs.calls.First.{Row, row, first, Given}
 
@@ -74,6 +74,37 @@ first-given (r ∷ rs) k e ne = ⊎-elim
     (λ (y : r .applies ≡ true). inl (y, rw y at e))
     (λ (n : r .applies ≡ false). inr (n, first-given rs k (rw n at e) ne))
     (true-or-false (r .applies))
+
+-- No row of the list has the number k, so that it is not given.
+unfoldable pub without : ℕ → List Row → Bool
+without k [] = true
+without k (r ∷ rs) = not (eqb (r .number) k) && without k rs
+
+pub first-without : (k : ℕ) (rs : List Row) → k ≢ 0 → without k rs ≡ true → first rs ≢ k
+unfolding first without
+first-without k [] some none = λ e. some (sym e)
+first-without k (r ∷ rs) some none = cond-case (λ (x : ℕ). x ≢ k) (r .applies) (r .number) (first rs)
+    (λ _. eqb-false (r .number) k (not-true (eqb (r .number) k) (and-left (not (eqb (r .number) k)) (without k rs) none)))
+    (λ _. first-without k rs some (and-right (not (eqb (r .number) k)) (without k rs) none))
+
+-- Where k is given behind rows without it, none of those applies.
+pub behind-without : (k : ℕ) (rs qs : List Row) → k ≢ 0 → numbered rs ≡ true → without k rs ≡ true → first (rs ++ qs) ≡ k → first rs ≡ 0
+behind-without k rs qs some n none e =
+    cond-case (λ (x : ℕ). x ≡ k → first rs ≡ 0) (eqb (first rs) 0) (first qs) (first rs)
+    (λ z _. eqb-true (first rs) 0 z)
+    (λ _ f. absurd (first-without k rs some none f))
+    (sym (first-append rs qs n) ∙ e)
+
+-- A number that one row alone has is given only where that row applies.
+pub first-own : (k : ℕ) (b : Bool) (rs qs : List Row) → k ≢ 0 → numbered rs ≡ true → without k rs ≡ true → without k qs ≡ true
+    → first (rs ++ (row k b ∷ qs)) ≡ k → b ≡ true
+first-own k b rs qs some n front back e = ⊎-elim
+    (λ yes. yes)
+    (λ (no : b ≡ false).
+    let none = behind-without k rs (row k b ∷ qs) some n front e in
+    let own : first (row k b ∷ qs) ≡ k = rw none at (sym (first-append rs (row k b ∷ qs) n) ∙ e) in
+    absurd (first-without k qs some back (sym (first-later k b qs no) ∙ own)))
+    (true-or-false b)
 
 -- ---- "The lowest number that applies is given."
 

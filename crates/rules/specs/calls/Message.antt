@@ -6,6 +6,7 @@ use mathlib.Core.List.{List, [], _∷_, _++_}
 use lib.Dec.{eqb, leb}
 use lib.ListN.{set, length}
 use Rattle.octets.specs.Run.{run, laid}
+use Rattle.ring.specs.declared.Verdict.{Verdict}
 use Rattle.ring.specs.Ring.{isNumber}
 use Rattle.header.specs.declared.Head.{Head}
 use Rattle.header.specs.Codes.{isUser}
@@ -19,9 +20,10 @@ use Rattle.answers.specs.declared.Admission.{Admission}
 use Rattle.answers.specs.declared.Answer.{Answer}
 use Rattle.answers.specs.declared.Outcome.{Outcome}
 use Rattle.answers.specs.declared.Outcome.the-variants.{Refused, Stored, Delivered}
+use Rattle.answers.specs.Told.{refusal}
 use Rattle.answers.specs.declared.Where.{Where}
 use Rattle.answers.specs.declared.Where.the-variants.{Nothing, Packet, Storage}
-use Rattle.rules.specs.calls.Admit.{senderRows, admitted, noneDropped}
+use Rattle.rules.specs.calls.Admit.{verdictOf, senderRows, admitted, noneDropped}
 use Rattle.rules.specs.calls.First.{Row, row, first}
 use Rattle.state.specs.Limits.{valid}
 use Rattle.state.specs.State.{senderAt, withSenders}
@@ -77,7 +79,7 @@ abbrev pub liesAt : ℕ → Head → Where
 liesAt i h = cond (eqb (h .cut .tbn) 1) Packet (Storage (i * area) (messageLength (h .cut)))
 
 abbrev pub whereBy : Outcome → ℕ → Head → Where
-whereBy (Refused k) i h = Nothing
+whereBy (Refused k age) i h = Nothing
 whereBy Stored i h = Nothing
 whereBy (Delivered v) i h = liesAt i h
 
@@ -95,16 +97,20 @@ taken w i s h =
     answerOf w i o (whereBy (o .outcome) i h)
 
 -- "returns nothing more"; "A refusal alters no state, stamp, clock, storage or buffer."
-unfoldable pub refused : Receiver → ℕ → Answer
-refused w k = record { outcome = Refused k; held = 0; dropped = noneDropped; lies = Nothing; state = w }
+unfoldable pub refused : Receiver → Outcome → Answer
+refused w o = record { outcome = o; held = 0; dropped = noneDropped; lies = Nothing; state = w }
 
 -- ---- the call
+
+-- What the number check says of a packet with this header.
+abbrev pub verdictAt : Receiver → Head → Verdict
+verdictAt w h = verdictOf (w .n1) (senderAt w (found w h)) h
 
 unfoldable pub messageAnswer : Receiver → ℕ → List ℕ → Answer
 messageAnswer w room packet =
     cond (eqb (messageNumber w room packet) 0)
     (taken w (found w (headOf packet)) (senderAt w (found w (headOf packet))) (headOf packet))
-    (refused w (messageNumber w room packet))
+    (refused w (refusal (messageNumber w room packet) (verdictAt w (headOf packet))))
 
 unfoldable pub messageStorage : Receiver → List ℕ → List ℕ → List ℕ
 messageStorage w storage packet =

@@ -1,6 +1,6 @@
 -- Laws of the message call: what is answered by what the judges found. Assumes nothing.
-use mathlib.Core.Path.{_≡_, refl, sym, ap, _∙_}
-use mathlib.Core.Logic.{⊎-elim}
+use mathlib.Core.Path.{_≡_, refl, sym, ap, subst, _∙_}
+use mathlib.Core.Logic.{_≢_, ⊎-elim}
 use mathlib.Core.Bool.{Bool, true, false, not, cond, _||_}
 use mathlib.Core.List.{List}
 use Prim.Native.Nat.{ℕ, _*_, _≤_, _<_}
@@ -18,14 +18,17 @@ use Rattle.state.specs.declared.Receiver.{Receiver}
 use Rattle.answers.specs.declared.Admission.{Admission}
 use Rattle.answers.specs.declared.Answer.{Answer}
 use Rattle.answers.specs.declared.Where.{Where}
-use Rattle.answers.specs.Told.{refusedNumber}
-use Rattle.rules.specs.calls.Admit.{senderRows, admission, admitted}
-use Rattle.rules.specs.calls.AdmitLaws.{Admitted, admitted-facts, admission-yes, admission-number}
+use Rattle.answers.specs.declared.Outcome.{Outcome}
+use Rattle.answers.specs.declared.Outcome.the-variants.{Refused}
+use Rattle.answers.specs.Told.{refusedNumber, refusal}
+use Rattle.answers.specs.ToldLaws.{refusal-plain}
+use Rattle.rules.specs.calls.Admit.{verdictOf, senderRows, admission, admitted}
+use Rattle.rules.specs.calls.AdmitLaws.{Admitted, admitted-facts, admission-yes, admission-number, admission-refused}
 use Rattle.rules.specs.calls.First.{first}
-use Rattle.rules.specs.calls.FirstLaws.{first-here, first-none, first-append, first-neither, numbered}
+use Rattle.rules.specs.calls.FirstLaws.{first-here, first-none, first-append, first-neither, numbered, without, first-without}
 use Rattle.state.specs.Limits.{valid}
 use Rattle.state.specs.LimitsLaws.{valid-count}
-use Rattle.rules.specs.calls.Message.{area, mostPdu, lengthWrong, headWithin, packetRows, messageRows, messageNumber, storageAfter, whereBy, taken, refused, messageAnswer, messageStorage, answerOf}
+use Rattle.rules.specs.calls.Message.{area, mostPdu, lengthWrong, headWithin, packetRows, messageRows, messageNumber, storageAfter, whereBy, taken, refused, verdictAt, messageAnswer, messageStorage, answerOf}
 use Rattle.state.specs.Table.{source, found, lookAt}
 use Rattle.state.specs.State.{sendersMost, senderAt}
 use Rattle.state.specs.TableLaws.{look-valid, look-place}
@@ -101,17 +104,22 @@ module _ (w : Receiver) (storage packet : List ℕ) where
   abbrev pub Answered : Answer → List ℕ → Type 0
   Answered a s = (a ≡ messageAnswer w (length storage) packet) × (s ≡ messageStorage w storage packet)
 
-  pub answered-early : (k : ℕ) → k ≡ earlyNumber → (k ≡ 0 → ⊥) → Answered (refused w k) storage
+  answered-by : (k : ℕ) → messageNumber w (length storage) packet ≡ k → (k ≡ 0 → ⊥) → Answered (refused w (refusal k (verdictAt w (headOf packet)))) storage
   unfolding messageAnswer messageStorage
-  answered-early k e ne =
-      let n : messageNumber w (length storage) packet ≡ k = number-is ∙ rw (← e, ne-eqb k 0 ne) in
-      (rw (n, ne-eqb k 0 ne), rw (n, ne-eqb k 0 ne))
+  answered-by k n ne = (rw (n, ne-eqb k 0 ne), rw (n, ne-eqb k 0 ne))
 
-  pub answered-late : (k : ℕ) → earlyNumber ≡ 0 → k ≡ lateNumber → (k ≡ 0 → ⊥) → Answered (refused w k) storage
-  unfolding messageAnswer messageStorage
-  answered-late k z e ne =
-      let n : messageNumber w (length storage) packet ≡ k = number-is ∙ rw (z, ← e) in
-      (rw (n, ne-eqb k 0 ne), rw (n, ne-eqb k 0 ne))
+  -- None of 9 and 11 to 14 is 17.
+  early-plain : (k : ℕ) → k ≡ earlyNumber → k ≢ 17
+  unfolding earlyNumber
+  early-plain k e f = first-without 17 (packetRows (valid w) (w .count) (found w (headOf packet)) (length storage) packet (headOf packet))
+      (λ z. omega (arith, z)) (unfold without in refl) (sym e ∙ f)
+
+  pub answered-early : (k : ℕ) → k ≡ earlyNumber → (k ≡ 0 → ⊥) → Answered (refused w (Refused k 0)) storage
+  answered-early k e ne =
+      subst (λ (o : Outcome). Answered (refused w o) storage) (refusal-plain k (verdictAt w (headOf packet)) (early-plain k e)) (answered-by k (number-is ∙ rw (← e, ne-eqb k 0 ne)) ne)
+
+  pub answered-late : (k : ℕ) → earlyNumber ≡ 0 → k ≡ lateNumber → (k ≡ 0 → ⊥) → Answered (refused w (refusal k (verdictAt w (headOf packet)))) storage
+  answered-late k z e ne = answered-by k (number-is ∙ rw (z, ← e)) ne
 
   pub answered-taken : earlyNumber ≡ 0 → lateNumber ≡ 0 → Answered (taken w (found w (headOf packet)) (senderAt w (found w (headOf packet))) (headOf packet)) (storageAfter storage (found w (headOf packet)) (headOf packet) packet)
   unfolding messageAnswer messageStorage
@@ -130,7 +138,7 @@ module _ (w : Receiver) (storage packet : List ℕ) (h : Head) (a : Address) (l 
   early-of : (k : ℕ) → k ≡ Rows → k ≡ earlyNumber w storage packet
   early-of k e = e ∙ rw eh (early-is w storage packet l look-is)
 
-  pub pass-refused : (k : ℕ) → k ≡ Rows → (k ≡ 0 → ⊥) → Answered w storage packet (refused w k) storage
+  pub pass-refused : (k : ℕ) → k ≡ Rows → (k ≡ 0 → ⊥) → Answered w storage packet (refused w (Refused k 0)) storage
   pass-refused k e ne = answered-early w storage packet k (early-of k e) ne
 
   -- The number before the sender's is 0.
@@ -161,8 +169,16 @@ module _ (w : Receiver) (storage packet : List ℕ) (h : Head) (a : Address) (l 
       late-of : refusedNumber (o .outcome) ≡ lateNumber w storage packet
       late-of = rw eo (admission-number (w .test) (w .n1) (w .clock) (senderAt w (l .at)) h ∙ sym late-is)
 
-      pub pass-late : (k : ℕ) → k ≡ refusedNumber (o .outcome) → (k ≡ 0 → ⊥) → Answered w storage packet (refused w k) storage
-      pass-late k e ne = answered-late w storage packet k early-zero (e ∙ late-of) ne
+      -- What the sender's record refuses is refused as it says.
+      outcome-of : (k : ℕ) → k ≡ refusedNumber (o .outcome) → (k ≡ 0 → ⊥) → refusal k (verdictAt w (headOf packet)) ≡ o .outcome
+      outcome-of k e ne =
+          let same : verdictAt w (headOf packet) ≡ verdictOf (w .n1) (senderAt w (l .at)) h = rw (eh, place-is) in
+          ap (refusal k) same
+          ∙ rw eo (sym (admission-refused (w .test) (w .n1) (w .clock) (senderAt w (l .at)) h k (e ∙ late-of ∙ late-is) ne))
+
+      pub pass-late : (k : ℕ) → k ≡ refusedNumber (o .outcome) → (k ≡ 0 → ⊥) → Answered w storage packet (refused w (o .outcome)) storage
+      pass-late k e ne =
+          subst (λ (x : Outcome). Answered w storage packet (refused w x) storage) (outcome-of k e ne) (answered-late w storage packet k early-zero (e ∙ late-of) ne)
 
       -- And so is the sender's.
       module _ (late : ℕ) (late-refused : late ≡ refusedNumber (o .outcome)) (late-none : late ≡ 0) where

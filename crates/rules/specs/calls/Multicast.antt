@@ -22,6 +22,7 @@ use Rattle.answers.specs.declared.GroupAnswer.{GroupAnswer}
 use Rattle.answers.specs.declared.Listener.{Listener}
 use Rattle.answers.specs.declared.Outcome.{Outcome}
 use Rattle.answers.specs.declared.Outcome.the-variants.{Refused, Stored, Delivered}
+use Rattle.answers.specs.Told.{refusal}
 use Rattle.answers.specs.declared.Where.{Where}
 use Rattle.answers.specs.declared.Where.the-variants.{Nothing, Packet}
 use Rattle.rules.specs.calls.Admit.{verdictBy}
@@ -119,12 +120,12 @@ multicastRows w t g packet = castRows (listening w (headOf packet)) t g packet (
 
 unfoldable pub castOutcome : Listener → Tables → ℕ → List ℕ → Head → Outcome
 castOutcome s t g packet h =
-    cond (eqb (first (castRows s t g packet h)) 0) (Delivered (verdictIn s t g h)) (Refused (first (castRows s t g packet h)))
+    cond (eqb (first (castRows s t g packet h)) 0) (Delivered (verdictIn s t g h)) (refusal (first (castRows s t g packet h)) (verdictIn s t g h))
 
 -- "A delivery that is not unchecked writes its version and number into its one entry; nothing else of state, tables or storage
 -- changes."
 abbrev pub isKept : Outcome → Bool
-isKept (Refused k) = false
+isKept (Refused k age) = false
 isKept Stored = false
 isKept (Delivered v) = not (isUnchecked v)
 
@@ -136,7 +137,7 @@ castTables s t g packet h = keptBy t (placeFor s g h) (castOutcome s t g packet 
 
 -- "The message is handed over as the part of the packet behind its header".
 abbrev pub handedBy : Outcome → Where
-handedBy (Refused k) = Nothing
+handedBy (Refused k age) = Nothing
 handedBy Stored = Nothing
 handedBy (Delivered v) = Packet
 

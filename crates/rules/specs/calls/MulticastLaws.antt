@@ -24,6 +24,7 @@ use Rattle.state.specs.Limits.{lastWithin, valid}
 use Rattle.answers.specs.declared.Listener.{Listener}
 use Rattle.answers.specs.declared.Outcome.{Outcome}
 use Rattle.answers.specs.declared.Outcome.the-variants.{Refused, Delivered}
+use Rattle.answers.specs.Told.{refusal}
 use Rattle.rules.specs.calls.First.{first}
 use Rattle.rules.specs.calls.FirstLaws.{first-here, first-none}
 use Rattle.rules.specs.calls.Message.{headWithin}
@@ -205,7 +206,7 @@ unfolding castOutcome keptBy
 cast-within n s t g packet h ok = by (eqb (first (castRows s t g packet h)) 0) refl
   where
     by : (b : Bool) → eqb (first (castRows s t g packet h)) 0 ≡ b
-        → tablesWithin n (cond (isKept (cond {A = Outcome} b (Delivered (verdictIn s t g h)) (Refused (first (castRows s t g packet h))))) (withEntry t (placeFor s g h) (h .given .version) (h .given .number)) t) ≡ true
+        → tablesWithin n (cond (isKept (cond {A = Outcome} b (Delivered (verdictIn s t g h)) (refusal (first (castRows s t g packet h)) (verdictIn s t g h)))) (withEntry t (placeFor s g h) (h .given .version) (h .given .number)) t) ≡ true
     by true e = cond-case (λ (x : Tables). tablesWithin n x ≡ true) (not (isUnchecked (verdictIn s t g h))) _ _
         (λ _.
         let number = head-number packet h (cast-facts s t g packet h (eqb-true (first (castRows s t g packet h)) 0 e) .head-within) in
@@ -221,7 +222,7 @@ unfolding castRows
 listening-nine s t g packet h outside = first-here 9 (not (s .valid)) _ (rw outside)
 
 pub multicast-nine : (w : Receiver) (t : Tables) (g : ℕ) (packet : List ℕ) → valid w ≡ false
-    → (multicastAnswer w t g packet ≡ groupAnswer (Refused 9)) × (multicastTables w t g packet ≡ t)
+    → (multicastAnswer w t g packet ≡ groupAnswer (Refused 9 0)) × (multicastTables w t g packet ≡ t)
 unfolding multicastAnswer multicastTables castOutcome keptBy
 multicast-nine w t g packet outside =
     let nine = listening-nine (listening w (headOf packet)) t g packet (headOf packet) outside in

@@ -7,10 +7,13 @@ use lib.Dec.{eqb}
 use Rattle.header.specs.declared.Head.{Head}
 use Rattle.signal.specs.declared.Body.{Body}
 use Rattle.state.specs.declared.Sender.{Sender}
-use Rattle.rules.specs.calls.Admit.{rejoins, senderRows, mapAfter, keptAfter, fills, droppedBy, heldAfter, senderAfter, admitted}
+use Rattle.answers.specs.declared.Admission.{Admission}
+use Rattle.answers.specs.declared.Outcome.{Outcome}
+use Rattle.rules.specs.calls.Admit.{rejoins, verdictOf, senderRows, mapAfter, keptAfter, fills, droppedBy, heldAfter, senderAfter, admitted, notAdmitted, admission}
 use Rattle.rules.specs.calls.Alike.{seen}
 use Rattle.rules.specs.calls.Alive.{heardBy}
 use Rattle.rules.specs.calls.Clock.{drops, dies, aged}
+use Rattle.rules.specs.calls.First.{first}
 use Rattle.state.specs.Limits.{senderWithin}
 use Rattle.state.specs.State.{withMessage, withHeard}
 
@@ -101,6 +104,10 @@ changes-heard clock b s = cond-ap seen (eqb (b .mode) 1) _ _
 -- The message call.
 
 module _ (h : Head) where
+  pub looks-verdict : (n1 : ℕ) → LooksAtSeen (λ s. verdictOf n1 s h)
+  unfolding seen
+  looks-verdict n1 s = refl
+
   pub looks-rows : (test : Bool) (n1 : ℕ) → LooksAtSeen (λ s. senderRows test n1 s h)
   unfolding seen senderRows rejoins
   looks-rows test n1 = by-cases _ (λ s. (refl, refl, refl, refl))
@@ -128,6 +135,14 @@ module _ (h : Head) where
   pub looks-outcome : (n1 clock : ℕ) → LooksAtSeen (λ s. admitted n1 clock s h .outcome)
   unfolding seen admitted
   looks-outcome n1 clock s = rw (looks-fills s)
+
+  pub looks-admission : (test : Bool) (n1 clock : ℕ) → LooksAtSeen (λ s. admission test n1 clock s h .outcome)
+  unfolding admission notAdmitted
+  looks-admission test n1 clock s =
+      let rows = looks-rows test n1 s in
+      let outcome : Admission → Outcome = λ a. a .outcome in
+      cond-ap outcome (eqb (first (senderRows test n1 (seen s) h)) 0) _ _
+      ∙ rw (rows, looks-outcome n1 clock s, looks-verdict n1 s) (sym (cond-ap outcome (eqb (first (senderRows test n1 s h)) 0) _ _))
 
   pub changes-after : (n1 clock : ℕ) → ChangesSeen (λ s. senderAfter n1 clock s h)
   unfolding seen senderAfter

@@ -22,19 +22,20 @@ use Rattle.rules.specs.pasts.Past.{World, Event, message, alive, clock, 
 
 -- ---- what a call is told
 
--- "P answer verdict held length", with the skipped numbers, the dropped version and number, and the octets themselves
--- for the length; "C answer, dropped map, dead map"; "A answer"; of the question whether a message is open, its sender and
--- the piece; and to a packet to a group the number, the verdict, the skipped numbers, the octets and the two tables left.
+-- "P answer verdict held length", with the skipped numbers, how old a repeat was, the dropped version and number, and the
+-- octets themselves for the length; "C answer, dropped map, dead map"; "A answer"; of the question whether a message is open,
+-- its sender and the piece; and to a packet to a group the number, the verdict, the skipped numbers, how old, the octets and
+-- the two tables left.
 pub data Line : Type 0 where
-  packet-told : (answer verdict skipped held droppedVersion droppedNumber : ℕ) → List ℕ → Line
+  packet-told : (answer verdict skipped age held droppedVersion droppedNumber : ℕ) → List ℕ → Line
   clock-told : (answer dropped dead : ℕ) → Line
   alive-told : (answer : ℕ) → Line
   question-told : (answer : ℕ) → Bool → (sender piece : ℕ) → Line
-  group-told : (answer verdict skipped : ℕ) (part versions numbers : List ℕ) → Line
+  group-told : (answer verdict skipped age : ℕ) (part versions numbers : List ℕ) → Line
 
 abbrev pub messageLine : MessageTold → List ℕ → Line
 messageLine t part =
-    packet-told (t .outcome .number) (t .outcome .verdict) (t .outcome .skipped) (t .held) (t .droppedVersion) (t .droppedNumber) part
+    packet-told (t .outcome .number) (t .outcome .verdict) (t .outcome .skipped) (t .outcome .age) (t .held) (t .droppedVersion) (t .droppedNumber) part
 
 abbrev pub clockLine : ClockTold → Line
 clockLine t = clock-told (t .number) (t .dropped) (t .dead)
@@ -43,7 +44,7 @@ abbrev pub questionLine : QuestionTold → Line
 questionLine t = question-told (t .number) (t .«open») (t .sender) (t .piece)
 
 abbrev pub groupLine : GroupTold → List ℕ → Tables → Line
-groupLine t part left = group-told (t .outcome .number) (t .outcome .verdict) (t .outcome .skipped) part (left .versions) (left .numbers)
+groupLine t part left = group-told (t .outcome .number) (t .outcome .verdict) (t .outcome .skipped) (t .outcome .age) part (left .versions) (left .numbers)
 
 abbrev pub line : (e : Event) → Said e → Line
 line (message packet) s = messageLine (messageTold (s .0)) (s .1)
@@ -62,11 +63,11 @@ same (x ∷ xs) (y ∷ ys) = eqb x y && same xs ys
 
 -- What a line says, as numbers, its kind before them.
 abbrev pub numbers : Line → List ℕ
-numbers (packet-told k v skipped held version number part) = 2 ∷ k ∷ v ∷ skipped ∷ held ∷ version ∷ number ∷ part
+numbers (packet-told k v skipped age held version number part) = 2 ∷ k ∷ v ∷ skipped ∷ age ∷ held ∷ version ∷ number ∷ part
 numbers (clock-told k dropped dead) = 3 ∷ k ∷ dropped ∷ dead ∷ []
 numbers (alive-told k) = 4 ∷ k ∷ []
 numbers (question-told k so i c) = 5 ∷ k ∷ cond so 1 0 ∷ i ∷ c ∷ []
-numbers (group-told k v skipped part versions seqs) = 6 ∷ k ∷ v ∷ skipped ∷ length part ∷ part ++ length versions ∷ versions ++ seqs
+numbers (group-told k v skipped age part versions seqs) = 6 ∷ k ∷ v ∷ skipped ∷ age ∷ length part ∷ part ++ length versions ∷ versions ++ seqs
 
 -- ---- a past, and whether the answers are those that stand beside its calls
 
@@ -209,10 +210,10 @@ of64 c = comes 7 5 100 16448 320 c 64 (replicate 256 c)
 -- ---- packets to groups
 
 -- Nodes 7 and 8 are heard by a node in these groups.
-abbrev pub grouped : (mode count : ℕ) → List ℕ → Setup
-grouped mode count numbers = record {
+abbrev pub grouped : (mode n1 count : ℕ) → List ℕ → Setup
+grouped mode n1 count numbers = record {
   mode = mode;
-  n1 = 16;
+  n1 = n1;
   t = 15000;
   count = 2;
   senders = address 1 7 ∷ address 1 8 ∷ [];
@@ -221,7 +222,7 @@ grouped mode count numbers = record {
 
 -- In the groups 9 and 3: 2 × 2 × 8 entries.
 abbrev pub nine-and-three : Setup
-nine-and-three = grouped 0 2 (9 ∷ 3 ∷ [])
+nine-and-three = grouped 0 16 2 (9 ∷ 3 ∷ [])
 
 abbrev pub empty : (entries : ℕ) → Tables
 empty n = record { versions = replicate n 0; numbers = replicate n 0 }
@@ -273,7 +274,7 @@ speaks protocol ver = alive (aliveLaid (0 ∷ 0 ∷ 0 ∷ 2 ∷ []) 1 protocol v
 
 -- "P answer verdict held length": nothing skipped, nothing dropped.
 abbrev pub P : (answer verdict held : ℕ) → List ℕ → Line
-P answer verdict held part = packet-told answer verdict 0 held 0 0 part
+P answer verdict held part = packet-told answer verdict 0 0 held 0 0 part
 
 -- "P 0 0 1 0"
 abbrev pub stored : (held : ℕ) → Line
@@ -283,17 +284,21 @@ stored held = P 0 0 held []
 abbrev pub delivered : (verdict : ℕ) → List ℕ → Line
 delivered verdict part = P 1 verdict 0 part
 
--- "P 17 0 0 0"
+-- "P 16 0 0 0"
 abbrev pub refused : ℕ → Line
 refused k = P k 0 0 []
 
+-- 02, Item 6: "P 17 0 0 d"
+abbrev pub repeated : (age : ℕ) → Line
+repeated age = packet-told 17 0 0 age 0 0 0 []
+
 -- "gap, with (SEQ − R − 1) modulo M numbers skipped"
 abbrev pub gap : (skipped : ℕ) → List ℕ → Line
-gap skipped part = packet-told 1 4 skipped 0 0 0 part
+gap skipped part = packet-told 1 4 skipped 0 0 0 0 part
 
 -- "the open message is dropped, its version and number stand in the answer …, and the new one opens."
 abbrev pub dropping : (version number : ℕ) → Line
-dropping version number = packet-told 0 0 0 1 version number []
+dropping version number = packet-told 0 0 0 0 1 version number []
 
 abbrev pub C : (answer dropped dead : ℕ) → Line
 C answer dropped dead = clock-told answer dropped dead
@@ -309,16 +314,19 @@ abbrev pub none-open : Line
 none-open = question-told 0 false 0 0
 
 abbrev pub heard : (verdict : ℕ) → List ℕ → Tables → Line
-heard verdict part left = group-told 1 verdict 0 part (left .versions) (left .numbers)
+heard verdict part left = group-told 1 verdict 0 0 part (left .versions) (left .numbers)
 
 abbrev pub unheard : ℕ → Tables → Line
-unheard k left = group-told k 0 0 [] (left .versions) (left .numbers)
+unheard k left = group-told k 0 0 0 [] (left .versions) (left .numbers)
+
+abbrev pub unheard-again : (age : ℕ) → Tables → Line
+unheard-again age left = group-told 17 0 0 age [] (left .versions) (left .numbers)
 
 -- ---- the table
 
 pub data Name : Type 0 where
   the-listing out-of-range not-registered setup-limits refused-setup mode-as-given n1-as-given lowest-number : Name
-  message-length packet-length piece-length cut-not-possible number-check unchecked : Name
+  message-length packet-length piece-length cut-not-possible number-check how-old unchecked : Name
   any-order twelve-pieces sixty-four-pieces two-senders empty-part dropped newcomer-of-one open-message came-round : Name
   lowest-missing first-open sixteen-senders : Name
   alive-length alive-fields alive-fault seconds alive-stamp dead-by-mode dead-map : Name
@@ -384,9 +392,9 @@ listings mode-as-given =
 -- "Let d be the remainder of R − SEQ by M, 0 to M − 1. d < N1: repeat. … Otherwise gap, with (SEQ − R − 1) modulo M
 -- numbers skipped.": R 2000, with N1 1, 16 and 1,024.
 listings n1-as-given =
-    past (one 0 1 15000) ((lone 7 5 2000 1, delivered 1 (1 ∷ [])) ∷ (lone 7 5 2000 1, refused 17) ∷ (lone 7 5 1985 2, gap 2147483631 (2 ∷ [])) ∷ [])
-    ∷ past (one 0 16 15000) ((lone 7 5 2000 1, delivered 1 (1 ∷ [])) ∷ (lone 7 5 1985 2, refused 17) ∷ (lone 7 5 1984 3, gap 2147483630 (3 ∷ [])) ∷ [])
-    ∷ past (one 0 1024 15000) ((lone 7 5 2000 1, delivered 1 (1 ∷ [])) ∷ (lone 7 5 977 4, refused 17) ∷ (lone 7 5 976 5, gap 2147482622 (5 ∷ [])) ∷ [])
+    past (one 0 1 15000) ((lone 7 5 2000 1, delivered 1 (1 ∷ [])) ∷ (lone 7 5 2000 1, repeated 0) ∷ (lone 7 5 1985 2, gap 2147483631 (2 ∷ [])) ∷ [])
+    ∷ past (one 0 16 15000) ((lone 7 5 2000 1, delivered 1 (1 ∷ [])) ∷ (lone 7 5 1985 2, repeated 15) ∷ (lone 7 5 1984 3, gap 2147483630 (3 ∷ [])) ∷ [])
+    ∷ past (one 0 1024 15000) ((lone 7 5 2000 1, delivered 1 (1 ∷ [])) ∷ (lone 7 5 977 4, repeated 1023) ∷ (lone 7 5 976 5, gap 2147482622 (5 ∷ [])) ∷ [])
     ∷ []
 -- "The lowest number that applies is given.": too short and all wrong; SEQ 0 of node 9; a test message of node 9; a
 -- test message whose cut is not possible; number 100 again, its cut not possible; number 100 again under an open 110; an
@@ -400,7 +408,7 @@ listings lowest-number =
     ∷ (message (packet (given 9 0 5 111 1 1 0) 65 65 1 1 (1 ∷ [])), refused 14)
     ∷ (message (packet (given 7 0 5 111 1 1 0) 66 65 1 1 (1 ∷ [])), refused 15)
     ∷ (comes 7 5 100 66 65 1 1 (1 ∷ []), refused 16)
-    ∷ (lone 7 5 100 1, refused 17)
+    ∷ (lone 7 5 100 1, repeated 0)
     ∷ (front 7 5 109 1, refused 18)
     ∷ (comes 7 5 110 365 320 1 2 (replicate 256 1), refused 19)
     ∷ (front 7 5 110 1, refused 20)
@@ -468,11 +476,37 @@ listings number-check =
     ((lone 7 5 100 1, delivered 1 (1 ∷ []))
     ∷ (lone 7 5 101 2, delivered 2 (2 ∷ []))
     ∷ (lone 7 5 104 3, gap 2 (3 ∷ []))
-    ∷ (lone 7 5 89 4, refused 17)
+    ∷ (lone 7 5 89 4, repeated 15)
     ∷ (lone 7 5 105 5, delivered 2 (5 ∷ []))
     ∷ (lone 7 6 2147483647 6, delivered 3 (6 ∷ []))
-    ∷ (lone 7 6 2147483647 6, refused 17)
+    ∷ (lone 7 6 2147483647 6, repeated 0)
     ∷ (lone 7 6 1 7, delivered 2 (7 ∷ []))
+    ∷ [])
+    ∷ []
+-- 02, Item 6: "how far back the number lies, 0 to N1 − 1", behind the number last delivered to its sender: of two senders; under
+-- an open message, whose number is another; after an unchecked one; and round the ring's end. "In every other answer it is 0":
+-- with 18 and 20, and with 15 and 16 though the number is a repeat's.
+listings how-old =
+    past pair
+    ((lone 7 5 103 1, delivered 1 (1 ∷ []))
+    ∷ (lone 8 5 203 2, delivered 1 (2 ∷ []))
+    ∷ (lone 7 5 103 3, repeated 0)
+    ∷ (lone 7 5 102 3, repeated 1)
+    ∷ (lone 7 5 88 3, repeated 15)
+    ∷ (lone 8 5 200 3, repeated 3)
+    ∷ (front 7 5 110 4, stored 1)
+    ∷ (lone 7 5 103 5, repeated 0)
+    ∷ (front 7 5 100 5, repeated 3)
+    ∷ (front 7 5 109 5, refused 18)
+    ∷ (front 7 5 110 5, refused 20)
+    ∷ (message (packet (given 7 0 5 100 1 1 0) 65 65 1 1 (1 ∷ [])), refused 15)
+    ∷ (comes 7 5 100 66 65 1 1 (1 ∷ []), refused 16)
+    ∷ (lone 7 0 1 6, packet-told 1 5 0 0 0 5 110 (6 ∷ []))
+    ∷ (lone 7 5 100 7, repeated 3)
+    ∷ (lone 7 6 4 8, delivered 3 (8 ∷ []))
+    ∷ (lone 7 6 2147483646 9, repeated 5)
+    ∷ (lone 7 6 2147483636 9, repeated 15)
+    ∷ (lone 7 6 2147483635 9, gap 2147483630 (9 ∷ []))
     ∷ [])
     ∷ []
 -- "1. V_SEQ = 0 and SEQ = 1: unchecked. Delivery leaves RV and R. 2. RV = 0: first. 3. V_SEQ differs from RV: restart."
@@ -481,7 +515,7 @@ listings unchecked =
     ((lone 7 0 1 1, delivered 5 (1 ∷ []))
     ∷ (lone 7 5 100 2, delivered 1 (2 ∷ []))
     ∷ (lone 7 0 1 3, delivered 5 (3 ∷ []))
-    ∷ (lone 7 5 100 4, refused 17)
+    ∷ (lone 7 5 100 4, repeated 0)
     ∷ (lone 7 5 101 5, delivered 2 (5 ∷ []))
     ∷ (lone 7 0 2 6, delivered 3 (6 ∷ []))
     ∷ (lone 7 0 2 7, delivered 1 (7 ∷ []))
@@ -525,8 +559,8 @@ listings empty-part =
     ∷ (back 7 5 100 2, delivered 1 (both 1 2))
     ∷ (front 7 5 101 3, stored 1)
     ∷ (front 7 5 101 4, refused 20)
-    ∷ (back 7 5 100 5, refused 17)
-    ∷ (lone 7 5 100 6, refused 17)
+    ∷ (back 7 5 100 5, repeated 0)
+    ∷ (lone 7 5 100 6, repeated 0)
     ∷ [])
     ((0, both 3 2 ++ (170 ∷ [])) ∷ [])
     ∷ []
@@ -548,8 +582,8 @@ listings newcomer-of-one =
     leaving raft
     ((lone 7 5 101 1, delivered 1 (1 ∷ []))
     ∷ (front 7 5 103 2, stored 1)
-    ∷ (lone 7 5 104 3, packet-told 1 4 2 0 5 103 (3 ∷ []))
-    ∷ (back 7 5 103 4, refused 17)
+    ∷ (lone 7 5 104 3, packet-told 1 4 2 0 0 5 103 (3 ∷ []))
+    ∷ (back 7 5 103 4, repeated 1)
     ∷ (aside question, none-open)
     ∷ [])
     ((0, replicate 256 2 ++ (170 ∷ [])) ∷ [])
@@ -576,7 +610,7 @@ listings came-round =
     ∷ (front 7 5 1 2, dropping 5 2147483647)
     ∷ (back 7 5 2147483647 3, refused 18)
     ∷ (back 7 5 1 4, delivered 1 (both 2 4))
-    ∷ (back 7 5 2147483647 3, refused 17)
+    ∷ (back 7 5 2147483647 3, repeated 1)
     ∷ [])
     -- "Open 1, M comes: 18."
     ∷ past raft ((front 7 5 1 1, stored 1) ∷ (front 7 5 2147483647 2, refused 18) ∷ (lone 7 5 2147483647 3, refused 18) ∷ (back 7 5 1 4, delivered 1 (both 1 4)) ∷ [])
@@ -596,7 +630,7 @@ listings came-round =
     ∷ past raft
     ((lone 7 5 2 1, delivered 1 (1 ∷ []))
     ∷ (front 7 5 3 2, stored 1)
-    ∷ (lone 7 5 2147483647 3, refused 17)
+    ∷ (lone 7 5 2147483647 3, repeated 2)
     ∷ (lone 7 5 2147483632 3, refused 18)
     ∷ (front 7 6 2147483647 4, dropping 5 3)
     ∷ (front 7 5 4 5, dropping 6 2147483647)
@@ -760,10 +794,10 @@ listings clock-limits =
 -- 02, Item 5: "0 to 8 registered groups (0 in the program), numbered 1 to 255"; "10 for groups outside these limits or named
 -- twice". "Places past the count are … never looked at."
 listings group-setups =
-    only (grouped 0 0 []) 0 ∷ only (grouped 0 1 (1 ∷ [])) 0 ∷ only (grouped 0 1 (255 ∷ [])) 0 ∷ only (grouped 0 1 (0 ∷ [])) 10 ∷ only (grouped 0 1 (256 ∷ [])) 10
-    ∷ only (grouped 0 8 (1 ∷ 2 ∷ 3 ∷ 4 ∷ 5 ∷ 6 ∷ 7 ∷ 8 ∷ [])) 0 ∷ only (grouped 0 9 (1 ∷ 2 ∷ 3 ∷ 4 ∷ 5 ∷ 6 ∷ 7 ∷ 8 ∷ 9 ∷ [])) 10
-    ∷ only (grouped 0 8 (1 ∷ 2 ∷ 3 ∷ 4 ∷ 5 ∷ 6 ∷ 7 ∷ 0 ∷ [])) 10 ∷ only (grouped 0 8 (1 ∷ 2 ∷ 3 ∷ 4 ∷ 5 ∷ 6 ∷ 7 ∷ 1 ∷ [])) 10
-    ∷ only (grouped 0 2 (4 ∷ 4 ∷ [])) 10 ∷ only (grouped 0 2 (4 ∷ 5 ∷ 4 ∷ 0 ∷ [])) 0
+    only (grouped 0 16 0 []) 0 ∷ only (grouped 0 16 1 (1 ∷ [])) 0 ∷ only (grouped 0 16 1 (255 ∷ [])) 0 ∷ only (grouped 0 16 1 (0 ∷ [])) 10 ∷ only (grouped 0 16 1 (256 ∷ [])) 10
+    ∷ only (grouped 0 16 8 (1 ∷ 2 ∷ 3 ∷ 4 ∷ 5 ∷ 6 ∷ 7 ∷ 8 ∷ [])) 0 ∷ only (grouped 0 16 9 (1 ∷ 2 ∷ 3 ∷ 4 ∷ 5 ∷ 6 ∷ 7 ∷ 8 ∷ 9 ∷ [])) 10
+    ∷ only (grouped 0 16 8 (1 ∷ 2 ∷ 3 ∷ 4 ∷ 5 ∷ 6 ∷ 7 ∷ 0 ∷ [])) 10 ∷ only (grouped 0 16 8 (1 ∷ 2 ∷ 3 ∷ 4 ∷ 5 ∷ 6 ∷ 7 ∷ 1 ∷ [])) 10
+    ∷ only (grouped 0 16 2 (4 ∷ 4 ∷ [])) 10 ∷ only (grouped 0 16 2 (4 ∷ 5 ∷ 4 ∷ 0 ∷ [])) 0
     ∷ []
 -- "The last version and number are kept for each sender, group and priority … in that order": "(sender × groups + group) × 8 +
 -- PRI". Node 8, group 3 and PRI 5 have place 29; another PRI, group or sender has another. "A delivery that is not unchecked
@@ -772,16 +806,22 @@ listings group-places =
     let one = holding (empty 32) 29 5 100 in
     past nine-and-three
     ((casts (empty 32) 3 8 5 100 5 1, heard 1 (1 ∷ []) one)
-    ∷ (casts one 3 8 5 100 5 2, unheard 17 one)
-    ∷ (casts one 3 8 5 85 5 2, unheard 17 one)
+    ∷ (casts one 3 8 5 100 5 2, unheard-again 0 one)
+    ∷ (casts one 3 8 5 85 5 2, unheard-again 15 one)
     ∷ (casts one 3 8 5 100 4 3, heard 1 (3 ∷ []) (holding one 28 5 100))
     ∷ (casts one 9 8 5 100 5 4, heard 1 (4 ∷ []) (holding one 21 5 100))
     ∷ (casts one 3 7 5 100 5 5, heard 1 (5 ∷ []) (holding one 13 5 100))
     ∷ (casts one 3 8 5 101 5 6, heard 2 (6 ∷ []) (holding (empty 32) 29 5 101))
     ∷ (casts one 3 8 6 7 5 7, heard 3 (7 ∷ []) (holding (empty 32) 29 6 7))
-    ∷ (casts one 3 8 5 103 5 8, group-told 1 4 2 (8 ∷ []) (set (replicate 32 0) 29 5) (set (replicate 32 0) 29 103))
+    ∷ (casts one 3 8 5 103 5 8, group-told 1 4 2 0 (8 ∷ []) (set (replicate 32 0) 29 5) (set (replicate 32 0) 29 103))
     ∷ (casts one 3 8 0 1 5 9, heard 5 (9 ∷ []) one)
     ∷ [])
+    -- N1 as given: 1, and 1,024
+    ∷ past (grouped 0 1 2 (9 ∷ 3 ∷ []))
+    ((casts one 3 8 5 100 5 2, unheard-again 0 one)
+    ∷ (casts one 3 8 5 85 5 3, group-told 1 4 2147483631 0 (3 ∷ []) (set (replicate 32 0) 29 5) (set (replicate 32 0) 29 85))
+    ∷ [])
+    ∷ past (grouped 0 1024 2 (9 ∷ 3 ∷ [])) ((casts one 3 8 5 2147482724 5 2, unheard-again 1023 one) ∷ [])
     ∷ []
 -- "26 a lent table of the wrong size, a SEQ above M, or 0 under a version not 0, before 12": in the first, a middle and the last
 -- entry, none of them the packet's, which has place 29.
@@ -800,7 +840,7 @@ listings group-tables =
     ∷ (to-group (empty 31) 3 [], unheard 26 (empty 31)) ∷ (to-group (empty 32) 3 [], unheard 12 (empty 32))
     ∷ [])
     -- With no groups the tables are empty.
-    ∷ past (grouped 0 0 []) ((casts (empty 0) 3 8 5 100 5 1, unheard 25 (empty 0)) ∷ (casts (empty 8) 3 8 5 100 5 1, unheard 26 (empty 8)) ∷ [])
+    ∷ past (grouped 0 16 0 []) ((casts (empty 0) 3 8 5 100 5 1, unheard 25 (empty 0)) ∷ (casts (empty 8) 3 8 5 100 5 1, unheard 26 (empty 8)) ∷ [])
     ∷ []
 -- "a PDU may be 1,472 octets here"; "25 group not registered, after 14", and before 15; "16 unless CBN = TBN = 1 and p = n".
 listings group-order =
@@ -820,5 +860,5 @@ listings group-order =
     ∷ (cut-so 0 66 65 1 1 (1 ∷ []), unheard 16 none) ∷ (cut-so 0 63 64 1 1 [], unheard 16 none)
     ∷ (to-group one 3 (packet (given 8 65537 5 100 1 0 5) 66 65 1 1 (1 ∷ [])), unheard 16 one)
     ∷ [])
-    ∷ past (grouped 1 2 (9 ∷ 3 ∷ [])) ((cut-so 1 65 65 1 1 (1 ∷ []), heard 1 (1 ∷ []) one) ∷ [])
+    ∷ past (grouped 1 16 2 (9 ∷ 3 ∷ [])) ((cut-so 1 65 65 1 1 (1 ∷ []), heard 1 (1 ∷ []) one) ∷ [])
     ∷ []
