@@ -4,9 +4,12 @@
 // Every public function is total: it takes any state, any tables, any group and any octets. The state does not change. Places
 // in the tables are said in `rules`, as is what becomes of a packet.
 ghost use mathlib.Core.Path.{_≡_};
+ghost use mathlib.Core.List.{[], _∷_};
+ghost use lib.Dec.{leb};
 ghost use lib.ListN.{getD, set as setAt};
 ghost use Rattle.answers.specs.declared.Outcome.the-variants.{Refused};
-ghost use Rattle.rules.specs.calls.First.{first};
+ghost use Rattle.groups.specs.Groups.{placeOf};
+ghost use Rattle.rules.specs.calls.First.{row, first};
 ghost use Rattle.rules.specs.calls.Multicast.{entriesOf, entryPlace, tablesWithin, onePiece, placeFor, verdictIn, earlyCastRows, castOutcome, isKept, castTables, handedBy, multicastAnswer, multicastTables};
 ghost use Rattle.multicast.specs.Lent.{tables};
 use answers::GroupAnswer;
@@ -14,6 +17,7 @@ use answers::Listener;
 use answers::Outcome;
 use answers::Where;
 use groups::Group;
+use groups::Groups;
 use header::Cut;
 use header::Head;
 use header::SIZE;
@@ -166,6 +170,13 @@ fn early_number(
     if s.count <= s.at {
         return 14;
     }
+    group_number(groups, group)
+}
+
+// 25 where the group is not registered, or 0.
+fn group_number(groups: Groups, group: Group) -> u8
+    ensures { λ r. ⌜ r ≡ first (row 25 (leb (groups .count) (placeOf groups (group .0))) ∷ []) ⌝ }
+{
     if groups.count <= groups.place(group) {
         25
     } else {

@@ -74,43 +74,23 @@ returns-5 c =
       le-leb _ _ (c .if5 .taken),
     )
 
-place-requires : tie.Need-place-requires
-place-requires c κs = search needs
+group-number-requires : tie.Need-group-number-requires
+group-number-requires c κs = search needs
 
 returns-6 : tie.Need-returns-6
 unfolding first
 returns-6 c =
-    let fifth = c .before .before .before in
+    let fifth = c .before in
     let fourth = fifth .before .before in
     let third = fourth .before .before in
     let second = third .before .before in
     let asked = second .before in
-    simp (
+    c .group-number .ensures ∙ simp (
       asked .before .before .if1 .left,
       judged _ _ _ _ _ (asked .before .entries .ensures) (asked .tables-within .ensures) (second .if2 .left),
       sym (third .before .length-outside .ensures) ∙ third .if3 .left,
       ap not (sym (fourth .before .head-within .ensures)) ∙ fourth .if4 .left,
       lt-leb _ _ (fifth .if5 .left),
-      sym (c .before .before .place .ensures),
-      le-leb _ _ (c .if6 .taken),
-    )
-
-returns-7 : tie.Need-returns-7
-unfolding first
-returns-7 c =
-    let fifth = c .before .before .before in
-    let fourth = fifth .before .before in
-    let third = fourth .before .before in
-    let second = third .before .before in
-    let asked = second .before in
-    simp (
-      asked .before .before .if1 .left,
-      judged _ _ _ _ _ (asked .before .entries .ensures) (asked .tables-within .ensures) (second .if2 .left),
-      sym (third .before .length-outside .ensures) ∙ third .if3 .left,
-      ap not (sym (fourth .before .head-within .ensures)) ∙ fourth .if4 .left,
-      lt-leb _ _ (fifth .if5 .left),
-      sym (c .before .before .place .ensures),
-      lt-leb _ _ (c .if6 .left),
     )
 
 pub early-number-spec : {M : Type 1} → statement M
@@ -126,6 +106,5 @@ early-number-spec =
     head-within-requires
     returns-4
     returns-5
-    place-requires
-    returns-6
-    returns-7)
+    group-number-requires
+    returns-6)
