@@ -13,6 +13,8 @@ use Rattle.octets.specs.FirstPlaceLaws.{place-holds}
 use Rattle.octets.specs.Split.{eq-or-ne, true-or-false, cond-case, and-left, and-right}
 use Rattle.ring.specs.declared.Verdict.{Verdict}
 use Rattle.ring.specs.Check.{verdictNumber, isRepeat, isUnchecked}
+use Rattle.ring.specs.Ring.{OnRing}
+use Rattle.ring.specs.RingLaws.{on-ring}
 use Rattle.header.specs.declared.Head.{Head}
 use Rattle.header.specs.Head.{headOf}
 use Rattle.groups.specs.declared.Groups.{Groups}
@@ -21,16 +23,18 @@ use Rattle.groups.specs.Groups.{numberAt, groupsWithin}
 use Rattle.groups.specs.GroupsLaws.{kept-within, place-own, place-number}
 use Rattle.state.specs.declared.Address.{Address}
 use Rattle.state.specs.declared.Last.{Last}
-use Rattle.state.specs.Limits.{sameAddress, given, addressAt}
+use Rattle.state.specs.Limits.{sameAddress, given, addressAt, lastWithin}
 use Rattle.state.specs.Table.{source}
-use Rattle.state.specs.WithinLaws.{same-is, valid-groups}
+use Rattle.state.specs.WithinLaws.{last-ring, same-is, valid-groups}
 use Rattle.answers.specs.declared.Listener.{Listener}
 use Rattle.answers.specs.declared.Setup.{Setup}
 use Rattle.rules.specs.calls.First.{Row, row, first, Given}
-use Rattle.rules.specs.calls.FirstLaws.{first-none, first-append, numbered, without, first-without, first-given, given-above}
+use Rattle.rules.specs.calls.FirstLaws.{first-none, first-append, numbered, without, first-without, behind-without, first-given, given-above}
 use Rattle.rules.specs.calls.ExactlyLaws.{multicast-above, multicast-refuses}
-use Rattle.rules.specs.calls.Multicast.{Tables, entriesOf, entryPlace, withEntry, placeFor, onePiece, verdictIn, castRows, listening, castOutcome, keptBy, multicastRows, multicastAnswer, multicastTables}
-use Rattle.rules.specs.calls.MulticastLaws.{Cast, cast-facts, cast-within, head-pri, place-apart, place-below, TablesWithin, tables-facts, entry-same, entry-other}
+use Rattle.rules.specs.calls.Message.{headWithin}
+use Rattle.rules.specs.calls.Multicast.{Tables, entriesOf, entryPlace, entryAt, withEntry, placeFor, onePiece, verdictIn, castRows, listening, castOutcome, keptBy, multicastRows, multicastAnswer, multicastTables}
+use Rattle.rules.specs.calls.MessageLaws.{head-pri, head-number}
+use Rattle.rules.specs.calls.MulticastLaws.{Cast, cast-facts, cast-within, place-apart, place-below, TablesWithin, tables-facts, entry-same, entry-other}
 use Rattle.rules.specs.pasts.Past.{World, Event, message, alive, clock, aside, question, multicast, step, said, answers}
 use Rattle.promised.specs.AgreesLaws.{Agrees, agrees-step}
 use Rattle.promised.specs.CastLaws.{group-count, group-place, cast-entry}
@@ -39,8 +43,8 @@ use Rattle.promised.specs.Judged.{hasLength, isMessage}
 use Rattle.promised.specs.JudgedLaws.{message-head}
 use Rattle.promised.specs.Log.{toldBy, Exchange, exchange, logged, Name, nameOf, castBy, casts, counts, lastCast}
 use Rattle.promised.specs.Log as log-of
-use Rattle.promised.specs.LogLaws.{is-five}
-use Rattle.promised.specs.Says.{sendersOf, groupsOf, placeOf, hasTables, entryFor, nameAt, verdictAfter, castSays}
+use Rattle.promised.specs.LogLaws.{lastIn, is-five}
+use Rattle.promised.specs.Says.{sendersOf, groupsOf, placeOf, hasTables, rowsCast, entryFor, nameAt, verdictAfter, castSays}
 use Rattle.promised.specs.SaysLaws.{place-is}
 use Rattle.promised.specs.ViewLaws.{found-own}
 
@@ -240,23 +244,53 @@ module _ (q : Setup) (begun : Tables) (log : List Exchange) (t : Tables) (inv : 
   abbrev by-past : Verdict
   by-past = verdictAfter q (lastHeard q begun log g packet) (nameOf packet)
 
-  same-verdict : first earlier ≡ 0 → by-table ≡ by-past
-  same-verdict none =
+  -- What is known of a packet that comes as far as the number check.
+  record Reaches : Type 0 where
+    known : its-place < length (sendersOf q)
+    registered : its-group < groupsOf q .count
+    is-message : headWithin packet (headOf packet) ≡ true
+    pri : headOf packet .given .pri < 8
+
+  reaches : first earlier ≡ 0 → Reaches
+  reaches none =
       let r26 = first-none 26 (not true) _ (λ z. omega arith) none in
       let r12 = first-none 12 (not (hasLength 64 1472 packet)) _ (λ z. omega arith) (r26 .1) in
       let r13 = first-none 13 (not (isMessage packet)) _ (λ z. omega arith) (r12 .1) in
       let r14 = first-none 14 (leb (length (sendersOf q)) its-place) _ (λ z. omega arith) (r13 .1) in
       let r25 = first-none 25 (leb (groupsOf q .count) its-group) _ (λ z. omega arith) (r14 .1) in
-      let known = leb-false (length (sendersOf q)) its-place (r14 .0) in
-      let registered = leb-false (groupsOf q .count) its-group (r25 .0) in
-      let pri = head-pri packet (headOf packet) (message-head packet ∙ not-false (isMessage packet) (r13 .0)) in
+      let is-message = message-head packet ∙ not-false (isMessage packet) (r13 .0) in
+      record {
+        known = leb-false (length (sendersOf q)) its-place (r14 .0);
+        registered = leb-false (groupsOf q .count) its-group (r25 .0);
+        is-message = is-message;
+        pri = head-pri packet (headOf packet) is-message;
+      }
+
+  same-name : Reaches → nameAt t (entryFor q g packet) ≡ lastHeard q begun log g packet
+  same-name f =
       let sender : given (sendersOf q) its-place ≡ source (headOf packet)
-      = same-is (given (sendersOf q) its-place) (source (headOf packet)) (place-holds (λ i. sameAddress (given (sendersOf q) i) (source (headOf packet))) (length (sendersOf q)) known) in
-      let its = inv .entry its-place its-group (headOf packet .given .pri) known registered pri in
+      = same-is (given (sendersOf q) its-place) (source (headOf packet)) (place-holds (λ i. sameAddress (given (sendersOf q) i) (source (headOf packet))) (length (sendersOf q)) (f .known)) in
+      let its = inv .entry its-place its-group (headOf packet .given .pri) (f .known) (f .registered) (f .pri) in
       let first-name = nameAt begun (entryFor q g packet) in
-      ap (λ (n : Name). verdictAfter q n (nameOf packet))
-      (its ∙ ap (λ (b : Address). lastCast b (numberAt (groupsOf q) its-group) (headOf packet .given .pri) first-name (casts log)) sender
-      ∙ ap (λ (n : ℕ). lastCast (source (headOf packet)) n (headOf packet .given .pri) first-name (casts log)) (place-number (groupsOf q) g registered))
+      its ∙ ap (λ (b : Address). lastCast b (numberAt (groupsOf q) its-group) (headOf packet .given .pri) first-name (casts log)) sender
+      ∙ ap (λ (n : ℕ). lastCast (source (headOf packet)) n (headOf packet .given .pri) first-name (casts log)) (place-number (groupsOf q) g (f .registered))
+
+  same-verdict : first earlier ≡ 0 → by-table ≡ by-past
+  same-verdict none = ap (λ (n : Name). verdictAfter q n (nameOf packet)) (same-name (reaches none))
+
+  -- The number of a repeat and the last one are 1 to M.
+  pub heard-ring : first (rowsCast q true by-past g packet) ≡ 17 → lastHeard q begun log g packet .version .0 ≢ 0
+      → OnRing (lastHeard q begun log g packet .number .0) × OnRing (nameOf packet .number .0)
+  heard-ring e some =
+      let f = reaches (behind-without 17 earlier (later by-past) (λ z. omega (arith, z)) (unfold numbered in refl) (unfold without in refl) e) in
+      let k = entryFor q g packet in
+      let n = length (sendersOf q) * groupsOf q .count * 8 in
+      let below : k < n = place-below (length (sendersOf q)) (groupsOf q .count) its-place its-group (headOf packet .given .pri) (f .known) (f .registered) (f .pri) in
+      let is : entryAt t k ≡ lastIn (lastHeard q begun log g packet) = ap lastIn (same-name f) in
+      (
+        last-ring _ (subst (λ (l : Last). lastWithin l ≡ true) is (tables-facts n t (inv .right) .each k below)) some,
+        on-ring _ (head-number packet (headOf packet) (f .is-message)),
+      )
 
   pub cast-after : castSays q t g packet ≡ castAfter q begun log t g packet
   unfolding castSays

@@ -10,14 +10,13 @@ use lib.Dec.{eqb, leb}
 use lib.ListN.{length, take}
 use borrow.Author.Tests.{eq-eqb, ne-eqb, leb-false, not-false}
 use Rattle.octets.specs.FirstPlaceLaws.{place-holds}
-use Rattle.octets.specs.Split.{eq-or-ne, true-or-false, and-right}
+use Rattle.octets.specs.Split.{eq-or-ne, true-or-false}
 use Rattle.ring.specs.declared.Verdict.{Verdict}
 use Rattle.ring.specs.Check.{check, isRepeat}
-use Rattle.ring.specs.Ring.{OnRing, isNumber}
+use Rattle.ring.specs.Ring.{OnRing}
 use Rattle.ring.specs.RingLaws.{on-ring, same-version, same-number}
 use Rattle.header.specs.declared.Head.{Head}
-use Rattle.header.specs.Codes.{isUser}
-use Rattle.header.specs.Head.{headOf, commonWithin}
+use Rattle.header.specs.Head.{headOf}
 use Rattle.cut.specs.Pieces.{piece, joined}
 use Rattle.cut.specs.PiecesLaws.{joined-same}
 use Rattle.cut.specs.Possible.{possible}
@@ -27,10 +26,10 @@ use Rattle.state.specs.declared.Address.{Address}
 use Rattle.state.specs.declared.Last.{Last}
 use Rattle.state.specs.declared.Message.{Message}
 use Rattle.state.specs.declared.Sender.{Sender}
-use Rattle.state.specs.Limits.{sameAddress, given, valid}
+use Rattle.state.specs.Limits.{sameAddress, given, lastWithin, valid}
 use Rattle.state.specs.State.{senderAt, Settings, settingsFrom}
 use Rattle.state.specs.Table.{source, found}
-use Rattle.state.specs.WithinLaws.{message-facts, valid-sender, same-is}
+use Rattle.state.specs.WithinLaws.{last-ring, message-facts, valid-sender, same-is}
 use Rattle.answers.specs.declared.Setup.{Setup}
 use Rattle.answers.specs.declared.Outcome.the-variants.{Delivered}
 use Rattle.answers.specs.Told.{ageWith, whereTold, MessageTold, messageTold}
@@ -40,8 +39,8 @@ use Rattle.rules.specs.calls.AdmitLaws.{Admitted, rejoins-open, drops-or-joins}
 use Rattle.rules.specs.calls.AdmitValidLaws.{kept-ones}
 use Rattle.rules.specs.calls.First.{Row, row, first}
 use Rattle.rules.specs.calls.FirstLaws.{first-none, first-later, numbered, without, behind-without}
-use Rattle.rules.specs.calls.Message.{area, headWithin, messageRows, messageNumber, verdictAt, messageAnswer, liesAt, taken, refused}
-use Rattle.rules.specs.calls.MessageLaws.{Passed, taken-facts}
+use Rattle.rules.specs.calls.Message.{area, messageRows, messageNumber, verdictAt, messageAnswer, liesAt, taken, refused}
+use Rattle.rules.specs.calls.MessageLaws.{Passed, head-number, taken-facts}
 use Rattle.rules.specs.calls.SetupLaws.{setup-facts}
 use Rattle.rules.specs.pasts.Past.{World, message, answerTo, partTo}
 use Rattle.promised.specs.Judged.{hasLength, isMessage, isFrom}
@@ -51,7 +50,7 @@ use Rattle.promised.specs.JoinLaws.{kinIn, kin-same}
 use Rattle.promised.specs.JudgedLaws.{message-length, message-head}
 use Rattle.promised.specs.KeptLaws.{TellsLog, refused-told, refused-above}
 use Rattle.promised.specs.Log.{Exchange, timeOf, Name, noName, nameOf, deliveries, lastOf, sameMessage, acceptedWith, openOf, stampOf}
-use Rattle.promised.specs.LogLaws.{Tells, open-kin, newer-same, rejoins-same, fills-count, held-with}
+use Rattle.promised.specs.LogLaws.{Tells, lastIn, open-kin, newer-same, rejoins-same, fills-count, held-with}
 use Rattle.promised.specs.SafeLaws.{from-accepted, joined-part}
 use Rattle.promised.specs.Says.{sendersOf, placeOf, differs, hasPiece, octetsOf, laterRows, rowsFor, droppedName, liesIn, verdictAfter, messageSays}
 use Rattle.promised.specs.SaysLaws.{place-is, accepted-setup, held-is}
@@ -145,8 +144,11 @@ module _ (q : Setup) (log : List Exchange) (w : World) (a : Agrees q log w) (p :
   abbrev with : List (List ℕ)
   with = openOf src i log
 
+  abbrev last : Name
+  last = lastOf src (deliveries log)
+
   abbrev verdict : Verdict
-  verdict = verdictAfter q (lastOf src (deliveries log)) (nameOf p)
+  verdict = verdictAfter q last (nameOf p)
 
   abbrev number : ℕ
   number = messageNumber (w .state) (length (w .storage)) p
@@ -187,18 +189,30 @@ module _ (q : Setup) (log : List Exchange) (w : World) (a : Agrees q log w) (p :
 
   -- ---- what is told to a refused packet
 
-  -- 17 is given to registered senders alone.
-  repeat-here : number ≡ 17 → i < w .state .count
+  -- 17 is given to messages of registered senders alone,
+  repeat-here : first (rowsFor q verdict with p) ≡ 17 → (isMessage p ≡ true) × (i < w .state .count)
   repeat-here e =
       let ahead = take 3 (rowsFor q verdict with p) in
-      let none = behind-without 17 ahead (laterRows q verdict with p) (λ z. omega (arith, z)) (unfold numbered in refl) (unfold without in refl) (sym number-says ∙ e) in
+      let none = behind-without 17 ahead (laterRows q verdict with p) (λ z. omega (arith, z)) (unfold numbered in refl) (unfold without in refl) e in
       let r12 = first-none 12 (not (hasLength 64 1460 p)) _ (λ z. omega arith) none in
       let r13 = first-none 13 (not (isMessage p)) _ (λ z. omega arith) (r12 .1) in
       let r14 = first-none 14 (leb (length (sendersOf q)) i) _ (λ z. omega arith) (r13 .1) in
-      omega (arith, leb-false (length (sendersOf q)) i (r14 .0), a .count)
+      (not-false (isMessage p) (r13 .0), omega (arith, leb-false (length (sendersOf q)) i (r14 .0), a .count))
+
+  -- so its number and the last one are 1 to M.
+  pub repeat-ring : first (rowsFor q verdict with p) ≡ 17 → last .version .0 ≢ 0 → OnRing (last .number .0) × OnRing (nameOf p .number .0)
+  unfolding view
+  repeat-ring e some =
+      let here = repeat-here e in
+      let within = valid-sender (w .state) (a .sound .is-valid) i (here .1) .last in
+      (
+        last-ring (lastIn last) (subst (λ (l : Last). lastWithin l ≡ true) (its-tells (here .1) .same-last) within) some,
+        on-ring _ (head-number p (headOf p) (message-head p ∙ here .0)),
+      )
 
   same-age : ageWith number (verdictAt (w .state) (headOf p)) ≡ ageWith number verdict
-  same-age = age-same number _ _ (λ e. ap (λ (j : ℕ). verdictOf (w .state .n1) (senderAt (w .state) j) (headOf p)) at-place ∙ verdict-is (repeat-here e))
+  same-age = age-same number _ _ (λ e.
+      ap (λ (j : ℕ). verdictOf (w .state .n1) (senderAt (w .state) j) (headOf p)) at-place ∙ verdict-is (repeat-here (sym number-says ∙ e) .1))
 
   refused-says : number ≢ 0 → (messageTold (answerTo w p), partTo w p) ≡ messageSays q log p
   unfolding messageAnswer refused messageSays
@@ -249,14 +263,14 @@ module _ (q : Setup) (log : List Exchange) (w : World) (a : Agrees q log w) (p :
 
     -- "the open message is dropped, its version and number stand in the answer"
     dropped-is : droppedBy sender (headOf p) ≡ record { version = droppedName with p .version; number = droppedName with p .number }
-    unfolding view droppedBy headWithin
+    unfolding view droppedBy
     dropped-is = by with t
       where
         opened-ring : sender .«open» ≡ true → OnRing (sender .message .number .0)
         opened-ring o = on-ring _ (message-facts (w .state .clock) (sender .message) (valid-sender (w .state) (a .sound .is-valid) i here .message o) .number)
 
         own-ring : OnRing (headOf p .given .number .0)
-        own-ring = on-ring _ (and-right (commonWithin p (headOf p) && isUser (headOf p .given .tcd)) (isNumber (headOf p .given .number .0)) (passed .head-within))
+        own-ring = on-ring _ (head-number p (headOf p) (passed .head-within))
 
         chosen : (b : Bool) (m : Message) (o : List ℕ) → kinOf o ≡ kinIn m
             → cond (not b) (record { version = m .version; number = m .number }) noneDropped

@@ -65,6 +65,11 @@ use Rattle.promises.specs.Course.{Meets, Course, SetupMeets, HeldMeets, 
 
 -- ---- demand 1
 
+-- What may be told beside number k of a refusal, 02, Item 6: with 17, and with no other, how old the repeat was. What it is says
+-- `AgeSaid`, and of a packet to a group `AgeHeard`.
+abbrev pub ageOnly : ℕ → OutcomeTold → ℕ
+ageOnly k t = cond (eqb k 17) (t .age) 0
+
 -- The number that was answered,
 abbrev pub numberIn : (e : Event) → Said e → ℕ
 numberIn (message packet) r = messageTold (r .0) .outcome .number
@@ -73,11 +78,7 @@ numberIn (clock ms) r = clockTold r .number
 numberIn (aside question) r = questionTold r .number
 numberIn (aside (multicast t g packet)) r = groupTold (r .0) .outcome .number
 
--- 02, Item 6: only 17 has an age. What it is says `AgeSaid`, and of a packet to a group `AgeHeard`.
-abbrev pub ageOnly : ℕ → OutcomeTold → ℕ
-ageOnly k t = cond (eqb k 17) (t .age) 0
-
--- and that nothing more was than number k: "any other answer gives an empty part", "(both 0 on a refusal)".
+-- and that nothing more was than number k, and with 17 an age: "any other answer gives an empty part", "(both 0 on a refusal)".
 abbrev pub NothingMore : (e : Event) → Said e → ℕ → Type 0
 NothingMore (message packet) r k = (messageTold (r .0) ≡ messageRefused k (ageOnly k (messageTold (r .0) .outcome))) × (r .1 ≡ [])
 NothingMore (alive packet) r k = callNumber (r .call) ≡ k

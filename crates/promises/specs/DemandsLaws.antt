@@ -292,7 +292,7 @@ age-said q r w m es rs v c packet a u meets =
     let log = logged [] es rs in
     subst (HowOld (q .n1) (lastOf (source (headOf packet)) (deliveries log) .number) (nameOf packet .number))
     (ap (λ (t : MessageTold × List ℕ). t .0 .outcome) (sym (every-said q r w m es rs v c (message packet) a u meets)))
-    (message-age q log packet)
+    (message-age q log v (course-agrees q r w m es rs v c) packet)
 
 -- Row 9 is the first of every call.
 nine-first : (b : Bool) (rs : List Row) → b ≡ false → Given (row 9 (not b) ∷ rs) 9

@@ -30,14 +30,15 @@ use Rattle.rules.specs.calls.First.{Row, row, first}
 use Rattle.rules.specs.calls.First as rows
 use Rattle.rules.specs.calls.FirstLaws.{first-given}
 use Rattle.rules.specs.calls.Multicast.{Tables, entriesOf, entryPlace, entryAt, placeFor, castRows, listening, castOutcome, multicastRows, multicastTables, onePiece, tablesWithin}
-use Rattle.rules.specs.calls.MulticastLaws.{tables-of, cast-facts, head-pri, place-apart, kept-other}
+use Rattle.rules.specs.calls.MessageLaws.{head-pri}
+use Rattle.rules.specs.calls.MulticastLaws.{tables-of, cast-facts, place-apart, kept-other}
 use Rattle.rules.specs.pasts.Past.{World, Event, aside, multicast, Answers}
 use Rattle.promised.specs.Age.{HowOld}
 use Rattle.promised.specs.AgeLaws.{cast-age}
 use Rattle.promised.specs.AgreesLaws.{agrees-start}
 use Rattle.promised.specs.CastLaws.{group-count}
 use Rattle.promised.specs.HandedOn.{HandedOn, lastHeard}
-use Rattle.promised.specs.HandedOnLaws.{Entries, entries-start, entries-after, cast-after}
+use Rattle.promised.specs.HandedOnLaws.{Entries, entries-start, entries-after, heard-ring, cast-after}
 use Rattle.promised.specs.Judged.{hasLength, isMessage}
 use Rattle.promised.specs.Log.{Exchange, logged, nameOf}
 use Rattle.promised.specs.Says.{sendersOf, groupsOf, hasTables, rowsCast, nameAt, verdictAfter, says}
@@ -71,7 +72,7 @@ age-heard q r w m es rs v c begun t right on g packet a u meets =
     let log = logged [] es rs in
     let told = cast-said q r w m es rs v c begun t right on g packet a u meets in
     subst (HowOld (q .n1) (lastHeard q begun log g packet .number) (nameOf packet .number)) (sym (ap (λ (x : GroupTold × Tables × List ℕ). x .0 .outcome) told))
-    (cast-age q (lastHeard q begun log g packet) packet true t g)
+    (cast-age q (lastHeard q begun log g packet) packet true t g (heard-ring q begun log t (entries q r w m es rs v c begun t right on) g packet))
 
 -- ---- 26
 

@@ -10,9 +10,9 @@ use lib.Count.{ones, ones-le}
 use lib.Dec.{eqb, leb, ltb}
 use lib.ListN.{length, getD, set, length-set, List·getD-eq-default}
 use lib.Seq.{getD-set-same, getD-set-other}
-use borrow.Author.Tests.{le-leb, leb-true, lt-ltb, ltb-true, eq-eqb, eqb-true, not-true}
+use borrow.Author.Tests.{le-leb, leb-true, lt-ltb, ltb-true, eq-eqb, ne-eqb, eqb-true, not-true}
 use Rattle.octets.specs.Split.{lt-or-le, eq-or-ne, both, and-left, and-right}
-use Rattle.ring.specs.Ring.{isNumber}
+use Rattle.ring.specs.Ring.{M, OnRing, isNumber}
 use Rattle.header.specs.Codes.{isUser}
 use Rattle.cut.specs.Possible.{severalPossible}
 use Rattle.cut.specs.PossibleLaws.{several-facts, several-most}
@@ -20,12 +20,23 @@ use Rattle.map.specs.Map.{fullMap, isEmpty, isFull, markedPast}
 use Rattle.map.specs.MapLaws.{partial-is}
 use Rattle.groups.specs.Groups.{groupsWithin}
 use Rattle.state.specs.declared.Address.{Address}
+use Rattle.state.specs.declared.Last.{Last}
 use Rattle.state.specs.declared.Message.{Message}
 use Rattle.state.specs.declared.Sender.{Sender}
 use Rattle.state.specs.declared.Receiver.{Receiver}
 use Rattle.state.specs.Limits.{isN1, isDropTime, clockMost, isAddress, sameAddress, lastWithin, messageWithin, senderWithin, newAmong, addressAt, sendersWithin, settingsOf, settingsWithin, valid}
 use Rattle.state.specs.LimitsLaws.{new-ext}
 use Rattle.state.specs.State.{sendersMost, noSender, senderAt}
+
+-- ---- a last number
+
+-- Under a version that is not 0 it is 1 to M.
+pub last-ring : (l : Last) → lastWithin l ≡ true → l .version .0 ≢ 0 → OnRing (l .number .0)
+unfolding lastWithin
+last-ring l e some =
+    let low = leb (l .number .0) M in
+    let more : ltb 0 (l .number .0) ≡ true = rw (ne-eqb (l .version .0) 0 some) at (and-right low (eqb (l .version .0) 0 || ltb 0 (l .number .0)) e) in
+    record { first = ltb-true 0 (l .number .0) more; last = leb-true (l .number .0) M (and-left low (eqb (l .version .0) 0 || ltb 0 (l .number .0)) e) }
 
 -- ---- an open message
 

@@ -1,16 +1,18 @@
 -- Laws of the message call: what is answered by what the judges found. Assumes nothing.
 use mathlib.Core.Path.{_≡_, refl, sym, ap, subst, _∙_}
 use mathlib.Core.Logic.{_≢_, ⊎-elim}
-use mathlib.Core.Bool.{Bool, true, false, not, cond, _||_}
+use mathlib.Core.Bool.{Bool, true, false, not, cond, _&&_, _||_}
 use mathlib.Core.List.{List}
 use Prim.Native.Nat.{ℕ, _*_, _≤_, _<_}
 use native.Mathlib.Omega.{arith}
 use lib.Dec.{eqb, leb, ltb}
 use lib.ListN.{length}
-use borrow.Author.Tests.{leb-false, ltb-false, eqb-true, ne-eqb, not-false}
-use Rattle.octets.specs.Split.{true-or-false, never-both}
+use borrow.Author.Tests.{leb-true, leb-false, ltb-false, eqb-true, ne-eqb, not-false}
+use Rattle.octets.specs.Split.{true-or-false, never-both, and-left, and-right}
+use Rattle.ring.specs.Ring.{isNumber}
 use Rattle.header.specs.declared.Head.{Head}
-use Rattle.header.specs.Head.{headOf}
+use Rattle.header.specs.Codes.{isUser, isPri, isMode}
+use Rattle.header.specs.Head.{headOf, isFixed}
 use Rattle.header.specs.Places.{headerSize}
 use Rattle.state.specs.declared.Address.{Address}
 use Rattle.state.specs.declared.Look.{Look}
@@ -67,6 +69,21 @@ passed-facts ok count i room packet h e =
       head-within = not-false (headWithin packet h) (r13 .0);
       registered = leb-false count i (r14 .0);
     }
+
+-- "PRI is 0 to 7", and SEQ 1 to M, where 13 does not apply.
+pub head-pri : (packet : List ℕ) (h : Head) → headWithin packet h ≡ true → h .given .pri < 8
+unfolding headWithin
+head-pri packet h e =
+    let fixed = isFixed packet in
+    let pri = isPri (h .given .pri) in
+    let mode = isMode (h .given .mode) in
+    let common = and-left (fixed && pri && mode) (isUser (h .given .tcd)) (and-left (fixed && pri && mode && isUser (h .given .tcd)) (isNumber (h .given .number .0)) e) in
+    omega (arith, leb-true (h .given .pri) 7 (and-right fixed pri (and-left (fixed && pri) mode common)))
+
+pub head-number : (packet : List ℕ) (h : Head) → headWithin packet h ≡ true → isNumber (h .given .number .0) ≡ true
+unfolding headWithin
+head-number packet h e =
+    and-right (isFixed packet && isPri (h .given .pri) && isMode (h .given .mode) && isUser (h .given .tcd)) (isNumber (h .given .number .0)) e
 
 -- What is known of a PDU to which no number applies.
 pub taken-facts : (w : Receiver) (room : ℕ) (packet : List ℕ) → messageNumber w room packet ≡ 0

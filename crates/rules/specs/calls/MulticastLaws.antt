@@ -15,8 +15,7 @@ use Rattle.octets.specs.Split.{lt-or-le, eq-or-ne, cond-case, both, and-left, a
 use Rattle.ring.specs.Ring.{M, isNumber}
 use Rattle.ring.specs.Check.{isRepeat, isUnchecked}
 use Rattle.header.specs.declared.Head.{Head}
-use Rattle.header.specs.Codes.{isUser, isPri, isMode}
-use Rattle.header.specs.Head.{headOf, isFixed, lengthOutside}
+use Rattle.header.specs.Head.{headOf, lengthOutside}
 use Rattle.header.specs.Places.{headerSize}
 use Rattle.groups.specs.Groups.{placeOf}
 use Rattle.state.specs.declared.Receiver.{Receiver}
@@ -28,6 +27,7 @@ use Rattle.answers.specs.Told.{refusal}
 use Rattle.rules.specs.calls.First.{first}
 use Rattle.rules.specs.calls.FirstLaws.{first-here, first-none}
 use Rattle.rules.specs.calls.Message.{headWithin}
+use Rattle.rules.specs.calls.MessageLaws.{head-number}
 use Rattle.rules.specs.calls.Multicast.{Tables, priorities, entriesOf, entryPlace, entryAt, withEntry, eachEntry, tablesWithin, mostCast, onePiece, placeFor, verdictIn, castRows, listening, castOutcome, isKept, keptBy, castTables, groupAnswer, multicastAnswer, multicastTables}
 
 -- ---- what is known where no number applies
@@ -66,21 +66,6 @@ cast-facts s t g packet h e =
       one-piece = not-false (onePiece (h .cut)) (r16 .0);
       no-repeat = r17 .0;
     }
-
--- "PRI is 0 to 7", and SEQ 1 to M, where 13 does not apply.
-pub head-pri : (packet : List ℕ) (h : Head) → headWithin packet h ≡ true → h .given .pri < priorities
-unfolding headWithin
-head-pri packet h e =
-    let fixed = isFixed packet in
-    let pri = isPri (h .given .pri) in
-    let mode = isMode (h .given .mode) in
-    let common = and-left (fixed && pri && mode) (isUser (h .given .tcd)) (and-left (fixed && pri && mode && isUser (h .given .tcd)) (isNumber (h .given .number .0)) e) in
-    omega (arith, leb-true (h .given .pri) 7 (and-right fixed pri (and-left (fixed && pri) mode common)))
-
-pub head-number : (packet : List ℕ) (h : Head) → headWithin packet h ≡ true → isNumber (h .given .number .0) ≡ true
-unfolding headWithin
-head-number packet h e =
-    and-right (isFixed packet && isPri (h .given .pri) && isMode (h .given .mode) && isUser (h .given .tcd)) (isNumber (h .given .number .0)) e
 
 -- ---- places
 
