@@ -2,16 +2,14 @@
 //
 // What is done with an answer stands apart from the call: a function that returns a state is the faster to prove the
 // less it does.
-use crate::damage::with_sender;
-use crate::damage::with_settings;
 use answers::Setup;
 use edges_calls::message_lines;
+use edges_fields::address_in;
+use edges_fields::groups_in;
+use edges_fields::with_sender;
+use edges_fields::with_settings;
 use edges_lines::calls::call_line;
 use edges_lines::calls::clock_line;
-use groups::Group;
-use groups::Groups;
-use header::codes::DataField;
-use header::codes::Node;
 use octets::from;
 use octets::read1;
 use octets::read2;
@@ -79,39 +77,14 @@ fn setup_in(contents: &[u8]) -> Setup {
     }
 }
 
-// How many groups there are, and all eight places.
-pub(crate) fn groups_in(contents: &[u8], at: usize) -> Groups {
-    let numbers = from(contents, at);
-    Groups {
-        count: read1(numbers, 0),
-        list: [
-            Group(read1(numbers, 1)),
-            Group(read1(numbers, 2)),
-            Group(read1(numbers, 3)),
-            Group(read1(numbers, 4)),
-            Group(read1(numbers, 5)),
-            Group(read1(numbers, 6)),
-            Group(read1(numbers, 7)),
-            Group(read1(numbers, 8)),
-        ],
-    }
-}
-
 fn addresses(contents: &[u8]) -> [Address; Receiver::PLACES] {
     let mut senders = [Address::NONE; Receiver::PLACES];
     let mut i: usize = 0;
     while i < Receiver::PLACES {
-        senders[i] = address(contents, 8 + 3 * i);
+        senders[i] = address_in(contents, 8 + 3 * i);
         i += 1;
     }
     senders
-}
-
-pub(crate) fn address(contents: &[u8], at: usize) -> Address {
-    Address {
-        field: DataField(read1(contents, at)),
-        node: Node(read2(from(contents, at), 1)),
-    }
 }
 
 // ---- the message call

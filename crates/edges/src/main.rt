@@ -2,7 +2,6 @@
 // functions, and prints its lines. The octets of every PDU come from outside, so that nothing here is written by what
 // it tests.
 mod calls;
-mod damage;
 
 ghost use mathlib.Core.Path.{_≡_};
 ghost use Prim.Native.Nat.{_≤_};

@@ -286,8 +286,7 @@ module _ (q : Setup) (begun : Tables) (log : List Exchange) (t : Tables) (inv : 
       let k = entryFor q g packet in
       let n = length (sendersOf q) * groupsOf q .count * 8 in
       let below : k < n = place-below (length (sendersOf q)) (groupsOf q .count) its-place its-group (headOf packet .given .pri) (f .known) (f .registered) (f .pri) in
-      let is : entryAt t k ≡ lastIn (lastHeard q begun log g packet) = ap lastIn (same-name f) in
-      (
+      let is : entryAt t k ≡ lastIn (lastHeard q begun log g packet) = ap lastIn (same-name f) in (
         last-ring _ (subst (λ (l : Last). lastWithin l ≡ true) is (tables-facts n t (inv .right) .each k below)) some,
         on-ring _ (head-number packet (headOf packet) (f .is-message)),
       )

@@ -204,8 +204,7 @@ module _ (q : Setup) (log : List Exchange) (w : World) (a : Agrees q log w) (p :
   unfolding view
   repeat-ring e some =
       let here = repeat-here e in
-      let within = valid-sender (w .state) (a .sound .is-valid) i (here .1) .last in
-      (
+      let within = valid-sender (w .state) (a .sound .is-valid) i (here .1) .last in (
         last-ring (lastIn last) (subst (λ (l : Last). lastWithin l ≡ true) (its-tells (here .1) .same-last) within) some,
         on-ring _ (head-number p (headOf p) (message-head p ∙ here .0)),
       )

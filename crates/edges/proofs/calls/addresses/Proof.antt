@@ -14,14 +14,14 @@ abbrev μ-loop : tie.MeasureT-loop
 loop-holds : tie.Need-loop-holds Inv-loop μ-loop
 loop-holds c = search needs
 
-mul-address : tie.Need-mul-address Inv-loop μ-loop
-mul-address c = search needs
+mul-address-in : tie.Need-mul-address-in Inv-loop μ-loop
+mul-address-in c = search needs
 
-add-address : tie.Need-add-address Inv-loop μ-loop
-add-address c = search needs
+add-address-in : tie.Need-add-address-in Inv-loop μ-loop
+add-address-in c = search needs
 
-address-requires : tie.Need-address-requires Inv-loop μ-loop
-address-requires c κs = search needs
+address-in-requires : tie.Need-address-in-requires Inv-loop μ-loop
+address-in-requires c κs = search needs
 
 mul-senders : tie.Need-mul-senders Inv-loop μ-loop
 mul-senders c = search needs
@@ -48,9 +48,9 @@ addresses-spec =
     Inv-loop
     μ-loop
     loop-holds
-    mul-address
-    add-address
-    address-requires
+    mul-address-in
+    add-address-in
+    address-in-requires
     mul-senders
     array-set-from-senders
     add-i

@@ -1,0 +1,2 @@
+-- What stands in the fields of docs/EDGES.md.
+pub mod Fields
