@@ -161,12 +161,15 @@ static void join_round(const struct night *k, unsigned round) {
         for (unsigned node = 1; node <= k->senders; node++) put(k, node, round + 1, k->reversed ? t + 1 - i : i);
 }
 
+/* How far back a repeat lies. */
+enum { AGE = 3 };
+
 /* One packet that is refused. What the refusal needs comes first, once. */
 static void refused_round(const struct night *k, unsigned round) {
     unsigned node = k->senders;
     if (round == 0 && k->number >= 17) put(k, node, 9, 1);
     if (k->number == 14) node = PLACES + 1;
-    uint8_t *packet = put(k, node, k->number == 18 ? 8 : 9, 1);
+    uint8_t *packet = put(k, node, k->number == 17 ? 9 - AGE : k->number == 18 ? 8 : 9, 1);
     if (k->number == 12) packet[BSIZE + 1] ^= 1;
     if (k->number == 13) packet[FUI + 3] = 1;
     if (k->number == 15) packet[MODE + 1] = 1;
@@ -342,8 +345,8 @@ static void expect(const struct night *k, uint64_t sum, unsigned rounds) {
     if (k->kind == PAGE && sum != rounds * all_held(k)) fail("not every place was asked", k->name);
     if (k->kind == REFUSED && k->number < 17 && sum != (uint64_t)k->number * rounds)
         fail("not every packet was refused with its number", k->name);
-    if (k->kind == REFUSED && k->number == 17 && sum != 17ull * rounds + 1 + k->n)
-        fail("not every repeat was refused", k->name);
+    if (k->kind == REFUSED && k->number == 17 && sum != (17ull + AGE) * rounds + 1 + k->n)
+        fail("not every repeat was refused, with its age", k->name);
     if (k->kind == REFUSED && k->number > 17 && sum != (uint64_t)k->number * rounds + 256)
         fail("not every packet was refused with its number", k->name);
 }
