@@ -3,7 +3,7 @@
 //
 // It is total: it takes any state and any octets, and refuses with their number those outside the limits.
 ghost use Rattle.std.specs.Prelude.{◌≡◌, not, [], ◌∷◌};
-ghost use Rattle.rules.specs.calls.Alive.{aliveHeadWithin, aliveWithin, faultWithin, signalRows, heardBy, aliveAnswer};
+ghost use Rattle.rules.specs.calls.Alive.{alive_head_within, alive_within, fault_within, signal_rows, heard_by, alive_answer};
 ghost use Rattle.rules.specs.calls.First.{row, first};
 
 use answers::{Call, Noted};
@@ -15,7 +15,7 @@ use signal::{Body, MOST, SIZE, group, read_body};
 use state::{Address, Heard, Receiver, Sender};
 
 pub fn alive(mut state: Receiver, packet: &[u8]) -> Noted
-    ensures { result ≡ aliveAnswer state packet.now }
+    ensures { result ≡ alive_answer state packet.now }
 {
     let h = read_head(packet);
     let body = read_body(packet);
@@ -39,7 +39,7 @@ pub fn alive(mut state: Receiver, packet: &[u8]) -> Noted
 
 // The first of 9, 12, 13, 14, 22 and 24 that applies, or 0.
 pub fn signal_number(valid: bool, count: u8, at: u8, packet: &[u8], h: Head, body: Body) -> u8
-    ensures { result ≡ first (signalRows valid count at packet.now h body) }
+    ensures { result ≡ first (signal_rows valid count at packet.now h body) }
 {
     let size = packet.len();
     if !valid {
@@ -62,14 +62,14 @@ pub fn signal_number(valid: bool, count: u8, at: u8, packet: &[u8], h: Head, bod
 
 // 24, or 0 where nothing is left to refuse.
 fn fault_number(packet: &[u8]) -> u8
-    ensures { result ≡ first (row 24 (not (faultWithin packet.now)) ∷ []) }
+    ensures { result ≡ first (row 24 (not (fault_within packet.now)) ∷ []) }
 {
     if fault_within(packet) { 0 } else { 24 }
 }
 
 // The fixed fields, PRI, MODE and the code; SEQ is not looked at.
 fn head_within(packet: &[u8], h: Head) -> bool
-    ensures { result ≡ aliveHeadWithin packet.now h }
+    ensures { result ≡ alive_head_within packet.now h }
 {
     let given = h.given;
     common_within(packet, h) & code_of(given.tcd).is_alive()
@@ -77,7 +77,7 @@ fn head_within(packet: &[u8], h: Head) -> bool
 
 // ML, CBN, TBN, the group and the alive header.
 fn signal_within(size: usize, h: Head, body: Body) -> bool
-    ensures { result ≡ aliveWithin size h body }
+    ensures { result ≡ alive_within size h body }
 {
     let cut = h.cut;
     let given = h.given;
@@ -90,7 +90,7 @@ fn signal_within(size: usize, h: Head, body: Body) -> bool
 
 // What stands behind the first 128 octets: nothing, or a fault section to the PDU's end.
 fn fault_within(packet: &[u8]) -> bool
-    ensures { result ≡ faultWithin packet.now }
+    ensures { result ≡ fault_within packet.now }
 {
     if packet.len() == SIZE {
         return true;
@@ -100,7 +100,7 @@ fn fault_within(packet: &[u8]) -> bool
 
 // The record of a sender that says that it is alive, or that it leaves.
 fn heard_by(s: Sender, clock: u64, body: Body) -> Sender
-    ensures { result ≡ heardBy clock s body }
+    ensures { result ≡ heard_by clock s body }
 {
     if body.mode == 1 {
         let heard = Heard {

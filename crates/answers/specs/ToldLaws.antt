@@ -2,10 +2,10 @@
 -- Assumes nothing.
 use Rattle.std.specs.Prelude.{ℕ, ◌≡◌, refl, cond, ◌≢◌, eqb}
 use Rattle.std.proofs.Common.{sym, ap, ◌∙◌, ⊎_elim, arith, ne_eqb}
-use Rattle.octets.specs.Split.{eq-or-ne}
+use Rattle.octets.specs.Split.{eq_or_ne}
 use Rattle.ring.specs.declared.Verdict.{Verdict}
 use Rattle.ring.specs.declared.Verdict.TheVariants.{Unchecked, First, Restart, Repeat, Next, Gap}
-use Rattle.ring.specs.Check.{verdictNumber, verdictSkipped, verdictAge}
+use Rattle.ring.specs.Check.{verdict_number, verdict_skipped, verdict_age}
 use Rattle.state.specs.declared.Receiver.{Receiver}
 use Rattle.answers.specs.declared.Answer.{Answer}
 use Rattle.answers.specs.declared.Call.{Call}
@@ -17,130 +17,130 @@ use Rattle.answers.specs.declared.Outcome.{Outcome}
 use Rattle.answers.specs.declared.Outcome.TheVariants as outcome
 use Rattle.answers.specs.declared.Where.{Where}
 use Rattle.answers.specs.declared.Where.TheVariants as lies
-use Rattle.answers.specs.Told.{RefusedAs, OutcomeTold, outcomeTold, ageWith, refusal, WhereTold, whereTold, MessageTold, messageTold, GroupTold, groupTold, callNumber, QuestionTold, questionTold, OutcomeTells, CallTells, MissingTells}
+use Rattle.answers.specs.Told.{RefusedAs, OutcomeTold, outcome_told, age_with, refusal, WhereTold, where_told, MessageTold, message_told, GroupTold, group_told, call_number, QuestionTold, question_told, OutcomeTells, CallTells, MissingTells}
 
 -- ---- a refusal's number is told by no other case
 
-pub refused-outcome : (o : Outcome) (k : ℕ) → RefusedAs (outcomeTold o).number k → o ≡ outcome.Refused k (outcomeTold o).age
-refused-outcome (outcome.Refused j age) k r = ap (λ (i : ℕ). outcome.Refused i age) r.0
-refused-outcome outcome.Stored k r = absurd (omega (arith, r.0, r.1))
-refused-outcome (outcome.Delivered v) k r = absurd (omega (arith, r.0, r.1))
+pub refused_outcome : (o : Outcome) (k : ℕ) → RefusedAs (outcome_told o).number k → o ≡ outcome.Refused k (outcome_told o).age
+refused_outcome (outcome.Refused j age) k r = ap (λ (i : ℕ). outcome.Refused i age) r.0
+refused_outcome outcome.Stored k r = absurd (omega (arith, r.0, r.1))
+refused_outcome (outcome.Delivered v) k r = absurd (omega (arith, r.0, r.1))
 
-pub refused-call : (c : Call) (k : ℕ) → RefusedAs (callNumber c) k → c ≡ call.Refused k
-refused-call call.Done k r = absurd (omega (arith, r.0, r.1))
-refused-call (call.Refused j) k r = ap call.Refused r.0
+pub refused_call : (c : Call) (k : ℕ) → RefusedAs (call_number c) k → c ≡ call.Refused k
+refused_call call.Done k r = absurd (omega (arith, r.0, r.1))
+refused_call (call.Refused j) k r = ap call.Refused r.0
 
-pub refused-missing : (m : Missing) (k : ℕ) → RefusedAs (questionTold m).number k → m ≡ missing.Refused k
-refused-missing (missing.Refused j) k r = ap missing.Refused r.0
-refused-missing missing.NoneOpen k r = absurd (omega (arith, r.0, r.1))
-refused-missing (missing.Piece i c) k r = absurd (omega (arith, r.0, r.1))
+pub refused_missing : (m : Missing) (k : ℕ) → RefusedAs (question_told m).number k → m ≡ missing.Refused k
+refused_missing (missing.Refused j) k r = ap missing.Refused r.0
+refused_missing missing.NoneOpen k r = absurd (omega (arith, r.0, r.1))
+refused_missing (missing.Piece i c) k r = absurd (omega (arith, r.0, r.1))
 
 -- ---- how old a repeat was
 
 -- Of a refusal with another number than 17 what the check says is not asked,
-pub refusal-plain : (k : ℕ) (v : Verdict) → k ≢ 17 → refusal k v ≡ outcome.Refused k 0
-refusal-plain k v other = rw (ne_eqb k 17 other)
+pub refusal_plain : (k : ℕ) (v : Verdict) → k ≢ 17 → refusal k v ≡ outcome.Refused k 0
+refusal_plain k v other = rw (ne_eqb k 17 other)
 
 -- so two have one age if the check says the same of them where 17 is given.
-pub age-same : (k : ℕ) (v u : Verdict) → (k ≡ 17 → v ≡ u) → ageWith k v ≡ ageWith k u
-age-same k v u same = ⊎_elim (λ (e : k ≡ 17). ap (ageWith k) (same e)) (λ (n : k ≢ 17). rw (ne_eqb k 17 n)) (eq-or-ne k 17)
+pub age_same : (k : ℕ) (v u : Verdict) → (k ≡ 17 → v ≡ u) → age_with k v ≡ age_with k u
+age_same k v u same = ⊎_elim (λ (e : k ≡ 17). ap (age_with k) (same e)) (λ (n : k ≢ 17). rw (ne_eqb k 17 n)) (eq_or_ne k 17)
 
 -- ---- the outcome, read back
 
-verdictFrom : (number skipped age : ℕ) → Verdict
-verdictFrom n k d =
+verdict_from : (number skipped age : ℕ) → Verdict
+verdict_from n k d =
     cond (eqb n 1) First (cond (eqb n 2) Next (cond (eqb n 3) Restart (cond (eqb n 4) (Gap k) (cond (eqb n 5) Unchecked (Repeat d)))))
 
-verdict-back : (v : Verdict) → verdictFrom (verdictNumber v) (verdictSkipped v) (verdictAge v) ≡ v
-unfolding verdictFrom
-verdict-back Unchecked = refl
-verdict-back First = refl
-verdict-back Restart = refl
-verdict-back (Repeat d) = refl
-verdict-back Next = refl
-verdict-back (Gap k) = refl
+verdict_back : (v : Verdict) → verdict_from (verdict_number v) (verdict_skipped v) (verdict_age v) ≡ v
+unfolding verdict_from
+verdict_back Unchecked = refl
+verdict_back First = refl
+verdict_back Restart = refl
+verdict_back (Repeat d) = refl
+verdict_back Next = refl
+verdict_back (Gap k) = refl
 
-outcomeFrom : OutcomeTold → Outcome
-outcomeFrom t =
+outcome_from : OutcomeTold → Outcome
+outcome_from t =
     cond (eqb t.number 0) outcome.Stored
-    (cond (eqb t.number 1) (outcome.Delivered (verdictFrom t.verdict t.skipped t.age)) (outcome.Refused t.number t.age))
+    (cond (eqb t.number 1) (outcome.Delivered (verdict_from t.verdict t.skipped t.age)) (outcome.Refused t.number t.age))
 
-outcome-back : (o : Outcome) → OutcomeTells o → outcomeFrom (outcomeTold o) ≡ o
-unfolding outcomeFrom
-outcome-back (outcome.Refused k age) t = rw (ne_eqb k 0 (λ z. omega (arith, t)), ne_eqb k 1 (λ z. omega (arith, t)))
-outcome-back outcome.Stored t = refl
-outcome-back (outcome.Delivered v) t = ap outcome.Delivered (verdict-back v)
+outcome_back : (o : Outcome) → OutcomeTells o → outcome_from (outcome_told o) ≡ o
+unfolding outcome_from
+outcome_back (outcome.Refused k age) t = rw (ne_eqb k 0 (λ z. omega (arith, t)), ne_eqb k 1 (λ z. omega (arith, t)))
+outcome_back outcome.Stored t = refl
+outcome_back (outcome.Delivered v) t = ap outcome.Delivered (verdict_back v)
 
-pub one-outcome : (a b : Outcome) → OutcomeTells a → OutcomeTells b → outcomeTold a ≡ outcomeTold b → a ≡ b
-one-outcome a b s t e = sym (outcome-back a s) ∙ ap outcomeFrom e ∙ outcome-back b t
+pub one_outcome : (a b : Outcome) → OutcomeTells a → OutcomeTells b → outcome_told a ≡ outcome_told b → a ≡ b
+one_outcome a b s t e = sym (outcome_back a s) ∙ ap outcome_from e ∙ outcome_back b t
 
 -- "1 delivered"
-pub delivered-outcome : (o : Outcome) → OutcomeTells o → (outcomeTold o).number ≡ 1 → (v : Verdict) × (o ≡ outcome.Delivered v)
-delivered-outcome (outcome.Refused k age) t e = absurd (omega (arith, t, e))
-delivered-outcome outcome.Stored t e = absurd (omega (arith, e))
-delivered-outcome (outcome.Delivered v) t e = (v, refl)
+pub delivered_outcome : (o : Outcome) → OutcomeTells o → (outcome_told o).number ≡ 1 → (v : Verdict) × (o ≡ outcome.Delivered v)
+delivered_outcome (outcome.Refused k age) t e = absurd (omega (arith, t, e))
+delivered_outcome outcome.Stored t e = absurd (omega (arith, e))
+delivered_outcome (outcome.Delivered v) t e = (v, refl)
 
 -- ---- the message call's answer, read back
 
-whereFrom : WhereTold → Where
-whereFrom t = cond (eqb t.slice 0) lies.Nothing (cond (eqb t.slice 1) lies.Packet (lies.Storage t.start t.length))
+where_from : WhereTold → Where
+where_from t = cond (eqb t.slice 0) lies.Nothing (cond (eqb t.slice 1) lies.Packet (lies.Storage t.start t.length))
 
-where-back : (p : Where) → whereFrom (whereTold p) ≡ p
-unfolding whereFrom
-where-back lies.Nothing = refl
-where-back lies.Packet = refl
-where-back (lies.Storage start length) = refl
+where_back : (p : Where) → where_from (where_told p) ≡ p
+unfolding where_from
+where_back lies.Nothing = refl
+where_back lies.Packet = refl
+where_back (lies.Storage start length) = refl
 
-answerFrom : MessageTold → Receiver → Answer
-answerFrom t w = record {
-  outcome = outcomeFrom t.outcome;
+answer_from : MessageTold → Receiver → Answer
+answer_from t w = record {
+  outcome = outcome_from t.outcome;
   held = t.held;
-  dropped = record { version = record { 0 = t.droppedVersion }; number = record { 0 = t.droppedNumber } };
-  lies = whereFrom t.lies;
+  dropped = record { version = record { 0 = t.dropped_version }; number = record { 0 = t.dropped_number } };
+  lies = where_from t.lies;
   state = w;
 }
 
-answer_back : (a : Answer) → OutcomeTells a.outcome → answerFrom (messageTold a) a.state ≡ a
-unfolding answerFrom
-answer_back a t = rw (outcome-back a.outcome t, where-back a.lies)
+answer_back : (a : Answer) → OutcomeTells a.outcome → answer_from (message_told a) a.state ≡ a
+unfolding answer_from
+answer_back a t = rw (outcome_back a.outcome t, where_back a.lies)
 
 -- With the state, all of it is told.
-pub one_answer : (a b : Answer) → OutcomeTells a.outcome → OutcomeTells b.outcome → messageTold a ≡ messageTold b → a.state ≡ b.state → a ≡ b
+pub one_answer : (a b : Answer) → OutcomeTells a.outcome → OutcomeTells b.outcome → message_told a ≡ message_told b → a.state ≡ b.state → a ≡ b
 one_answer a b s t e f = sym (answer_back a s) ∙ rw (e, f) (answer_back b t)
 
 -- ---- the multicast call's answer, read back
 
-groupFrom : GroupTold → GroupAnswer
-groupFrom t = record { outcome = outcomeFrom t.outcome; lies = whereFrom t.lies }
+group_from : GroupTold → GroupAnswer
+group_from t = record { outcome = outcome_from t.outcome; lies = where_from t.lies }
 
-group-back : (a : GroupAnswer) → OutcomeTells a.outcome → groupFrom (groupTold a) ≡ a
-unfolding groupFrom
-group-back a t = rw (outcome-back a.outcome t, where-back a.lies)
+group_back : (a : GroupAnswer) → OutcomeTells a.outcome → group_from (group_told a) ≡ a
+unfolding group_from
+group_back a t = rw (outcome_back a.outcome t, where_back a.lies)
 
-pub one-group : (a b : GroupAnswer) → OutcomeTells a.outcome → OutcomeTells b.outcome → groupTold a ≡ groupTold b → a ≡ b
-one-group a b s t e = sym (group-back a s) ∙ ap groupFrom e ∙ group-back b t
+pub one_group : (a b : GroupAnswer) → OutcomeTells a.outcome → OutcomeTells b.outcome → group_told a ≡ group_told b → a ≡ b
+one_group a b s t e = sym (group_back a s) ∙ ap group_from e ∙ group_back b t
 
 -- ---- the other calls
 
-callFrom : ℕ → Call
-callFrom k = cond (eqb k 0) call.Done (call.Refused k)
+call_from : ℕ → Call
+call_from k = cond (eqb k 0) call.Done (call.Refused k)
 
-call_back : (c : Call) → CallTells c → callFrom (callNumber c) ≡ c
-unfolding callFrom
+call_back : (c : Call) → CallTells c → call_from (call_number c) ≡ c
+unfolding call_from
 call_back call.Done t = refl
 call_back (call.Refused k) t = rw (ne_eqb k 0 (λ z. omega (arith, t)))
 
-pub one-call : (a b : Call) → CallTells a → CallTells b → callNumber a ≡ callNumber b → a ≡ b
-one-call a b s t e = sym (call_back a s) ∙ ap callFrom e ∙ call_back b t
+pub one_call : (a b : Call) → CallTells a → CallTells b → call_number a ≡ call_number b → a ≡ b
+one_call a b s t e = sym (call_back a s) ∙ ap call_from e ∙ call_back b t
 
-missingFrom : QuestionTold → Missing
-missingFrom t = cond (eqb t.number 0) (cond t.«open» (missing.Piece t.sender t.piece) missing.NoneOpen) (missing.Refused t.number)
+missing_from : QuestionTold → Missing
+missing_from t = cond (eqb t.number 0) (cond t.«open» (missing.Piece t.sender t.piece) missing.NoneOpen) (missing.Refused t.number)
 
-missing-back : (m : Missing) → MissingTells m → missingFrom (questionTold m) ≡ m
-unfolding missingFrom
-missing-back (missing.Refused k) t = rw (ne_eqb k 0 (λ z. omega (arith, t)))
-missing-back missing.NoneOpen t = refl
-missing-back (missing.Piece i c) t = refl
+missing_back : (m : Missing) → MissingTells m → missing_from (question_told m) ≡ m
+unfolding missing_from
+missing_back (missing.Refused k) t = rw (ne_eqb k 0 (λ z. omega (arith, t)))
+missing_back missing.NoneOpen t = refl
+missing_back (missing.Piece i c) t = refl
 
-pub one-missing : (a b : Missing) → MissingTells a → MissingTells b → questionTold a ≡ questionTold b → a ≡ b
-one-missing a b s t e = sym (missing-back a s) ∙ ap missingFrom e ∙ missing-back b t
+pub one_missing : (a b : Missing) → MissingTells a → MissingTells b → question_told a ≡ question_told b → a ≡ b
+one_missing a b s t e = sym (missing_back a s) ∙ ap missing_from e ∙ missing_back b t

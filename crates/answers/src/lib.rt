@@ -1,7 +1,7 @@
 // What the calls take and answer, and beside each enum its number and values in this paper, as specs/Told.antt lists
 // them for each case.
 ghost use Rattle.std.specs.Prelude.{◌≡◌};
-ghost use Rattle.answers.specs.Told.{outcomeTold, refusedNumber, callNumber, questionTold};
+ghost use Rattle.answers.specs.Told.{outcome_told, refused_number, call_number, question_told};
 
 use groups::Groups;
 use ring::{Number, Verdict, Version};
@@ -18,7 +18,7 @@ pub enum Outcome {
 
 impl Outcome {
     pub fn number(self) -> u8
-        ensures { result ≡ (outcomeTold self).number }
+        ensures { result ≡ (outcome_told self).number }
     {
         match self {
             Outcome::Refused { number, age: _ } => number,
@@ -29,7 +29,7 @@ impl Outcome {
 
     // The number of a refusal, 0 where there is none.
     pub fn refusal(self) -> u8
-        ensures { result ≡ refusedNumber self }
+        ensures { result ≡ refused_number self }
     {
         match self {
             Outcome::Refused { number, age: _ } => number,
@@ -40,7 +40,7 @@ impl Outcome {
 
     // 0 where nothing is delivered.
     pub fn verdict(self) -> u8
-        ensures { result ≡ (outcomeTold self).verdict }
+        ensures { result ≡ (outcome_told self).verdict }
     {
         match self {
             Outcome::Refused { number: _, age: _ } => 0,
@@ -51,7 +51,7 @@ impl Outcome {
 
     // How old a repeat was.
     pub fn age(self) -> u32
-        ensures { result ≡ (outcomeTold self).age }
+        ensures { result ≡ (outcome_told self).age }
     {
         match self {
             Outcome::Refused { number: _, age } => age,
@@ -62,7 +62,7 @@ impl Outcome {
 
     // How many numbers were skipped.
     pub fn skipped(self) -> u32
-        ensures { result ≡ (outcomeTold self).skipped }
+        ensures { result ≡ (outcome_told self).skipped }
     {
         match self {
             Outcome::Refused { number: _, age: _ } => 0,
@@ -157,7 +157,7 @@ pub enum Call {
 
 impl Call {
     pub fn number(self) -> u8
-        ensures { result ≡ callNumber self }
+        ensures { result ≡ call_number self }
     {
         match self {
             Call::Done => 0,
@@ -192,7 +192,7 @@ pub enum Missing {
 
 impl Missing {
     pub fn number(self) -> u8
-        ensures { result ≡ (questionTold self).number }
+        ensures { result ≡ (question_told self).number }
     {
         match self {
             Missing::Refused(number) => number,
@@ -205,7 +205,7 @@ impl Missing {
     }
 
     pub fn is_open(self) -> bool
-        ensures { result ≡ (questionTold self).«open» }
+        ensures { result ≡ (question_told self).«open» }
     {
         match self {
             Missing::Refused(_) => false,
@@ -219,7 +219,7 @@ impl Missing {
 
     // 0 where none is open.
     pub fn sender(self) -> u8
-        ensures { result ≡ (questionTold self).sender }
+        ensures { result ≡ (question_told self).sender }
     {
         match self {
             Missing::Refused(_) => 0,
@@ -229,7 +229,7 @@ impl Missing {
     }
 
     pub fn piece(self) -> u8
-        ensures { result ≡ (questionTold self).piece }
+        ensures { result ≡ (question_told self).piece }
     {
         match self {
             Missing::Refused(_) => 0,

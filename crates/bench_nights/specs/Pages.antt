@@ -4,6 +4,6 @@ use Rattle.state.specs.declared.Receiver.{Receiver}
 use Rattle.state.specs.Held.{held_at}
 
 -- The sum with the answers for these places in it.
-unfoldable pub heldSum : ℕ → Receiver → List ℕ → ℕ
-heldSum sum w [] = sum
-heldSum sum w (i ∷ places) = heldSum ((sum + held_at w i) % 2 ^ 64) w places
+unfoldable pub held_sum : ℕ → Receiver → List ℕ → ℕ
+held_sum sum w [] = sum
+held_sum sum w (i ∷ places) = held_sum ((sum + held_at w i) % 2 ^ 64) w places

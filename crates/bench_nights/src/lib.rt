@@ -6,11 +6,11 @@
 // compared.
 ghost use Rattle.std.specs.Prelude.{◌≡◌};
 ghost use Rattle.header.specs.Head.{headed};
-ghost use Rattle.state.specs.State.{sendersMost};
+ghost use Rattle.state.specs.State.{senders_most};
 ghost use Rattle.rules.specs.pasts.Past.{after};
-ghost use Rattle.bench_nights.specs.Night.{nodesTo, boardOf, begun, packetsBy, summed, nightSum};
-ghost use Rattle.bench_nights.specs.Cuts.{given_of, headFor, cutSum, cutsSum, cutsBuffer};
-ghost use Rattle.bench_nights.specs.Pages.{heldSum};
+ghost use Rattle.bench_nights.specs.Night.{nodes_to, board_of, begun, packets_by, summed, night_sum};
+ghost use Rattle.bench_nights.specs.Cuts.{given_of, head_for, cut_sum, cuts_sum, cuts_buffer};
+ghost use Rattle.bench_nights.specs.Pages.{held_sum};
 
 use answers::{Answer, Dropped, Outcome, Setup, Where};
 use cut::cutter::{Cutting, cutter};
@@ -36,8 +36,8 @@ pub extern "C" fn adp_night(
     sizes: &[u16],
     storage: &mut [u8],
 ) -> u64
-    ensures answer { result ≡ nightSum 0 (begun (boardOf mode n1 t senders) storage.old) (packetsBy sizes.now packets.now) }
-    ensures stored { storage.new ≡ (after (begun (boardOf mode n1 t senders) storage.old) (packetsBy sizes.now packets.now)).storage }
+    ensures answer { result ≡ night_sum 0 (begun (board_of mode n1 t senders) storage.old) (packets_by sizes.now packets.now) }
+    ensures stored { storage.new ≡ (after (begun (board_of mode n1 t senders) storage.old) (packets_by sizes.now packets.now)).storage }
 {
     let ended = night(mode, n1, t, senders, packets, sizes, storage);
     ended.sum
@@ -55,8 +55,8 @@ pub extern "C" fn adp_pages(
     storage: &mut [u8],
     places: &[u8],
 ) -> u64
-    ensures answer { result ≡ heldSum 0 (after (begun (boardOf mode n1 t senders) storage.old) (packetsBy sizes.now packets.now)).state places.now }
-    ensures stored { storage.new ≡ (after (begun (boardOf mode n1 t senders) storage.old) (packetsBy sizes.now packets.now)).storage }
+    ensures answer { result ≡ held_sum 0 (after (begun (board_of mode n1 t senders) storage.old) (packets_by sizes.now packets.now)).state places.now }
+    ensures stored { storage.new ≡ (after (begun (board_of mode n1 t senders) storage.old) (packets_by sizes.now packets.now)).storage }
 {
     let ended = night(mode, n1, t, senders, packets, sizes, storage);
     let state = ended.state;
@@ -66,8 +66,8 @@ pub extern "C" fn adp_pages(
 // The pieces 1 to last of a message, each written into the same buffer.
 #[unsafe(no_mangle)]
 pub extern "C" fn adp_cuts(number: u32, message: &[u8], u: u16, last: u8, buffer: &mut [u8]) -> u64
-    ensures answer { result ≡ cutsSum (given_of number) message.now u buffer.old last }
-    ensures written { buffer.new ≡ cutsBuffer (given_of number) message.now u buffer.old last }
+    ensures answer { result ≡ cuts_sum (given_of number) message.now u buffer.old last }
+    ensures written { buffer.new ≡ cuts_buffer (given_of number) message.now u buffer.old last }
 {
     let given = given_of(number);
     let mut sum: u64 = 0;
@@ -83,7 +83,7 @@ pub extern "C" fn adp_cuts(number: u32, message: &[u8], u: u16, last: u8, buffer
 // A header by itself: the values of a message with this number, and what the cut makes.
 #[unsafe(no_mangle)]
 pub extern "C" fn adp_head(number: u32, ml: u32, bsize: u16, cbn: u8, tbn: u8, buffer: &mut [u8])
-    ensures { buffer.new ≡ headed buffer.old (headFor number ml bsize cbn tbn) }
+    ensures { buffer.new ≡ headed buffer.old (head_for number ml bsize cbn tbn) }
 {
     let given = given_of(number);
     let cut = Cut {
@@ -99,7 +99,7 @@ pub extern "C" fn adp_head(number: u32, ml: u32, bsize: u16, cbn: u8, tbn: u8, b
 
 // As many nodes as there are places, from 1 on, of data field 1.
 fn nodes() -> [Address; Receiver::PLACES]
-    ensures { result ≡ nodesTo sendersMost }
+    ensures { result ≡ nodes_to senders_most }
 {
     let mut nodes = [Address::NONE; Receiver::PLACES];
     let mut i: u16 = 0;
@@ -117,7 +117,7 @@ fn nodes() -> [Address; Receiver::PLACES]
 
 // A node whose senders are the nodes 1 to this many of data field 1.
 fn board(mode: u8, n1: u16, t: u32, count: u8) -> Setup
-    ensures { result ≡ boardOf mode n1 t count }
+    ensures { result ≡ board_of mode n1 t count }
 {
     let senders = nodes();
     Setup {
@@ -180,9 +180,9 @@ fn night(
     sizes: &[u16],
     storage: &mut [u8],
 ) -> Ended
-    ensures answer { result.sum ≡ nightSum 0 (begun (boardOf mode n1 t senders) storage.old) (packetsBy sizes.now packets.now) }
-    ensures left { result.state ≡ (after (begun (boardOf mode n1 t senders) storage.old) (packetsBy sizes.now packets.now)).state }
-    ensures stored { storage.new ≡ (after (begun (boardOf mode n1 t senders) storage.old) (packetsBy sizes.now packets.now)).storage }
+    ensures answer { result.sum ≡ night_sum 0 (begun (board_of mode n1 t senders) storage.old) (packets_by sizes.now packets.now) }
+    ensures left { result.state ≡ (after (begun (board_of mode n1 t senders) storage.old) (packets_by sizes.now packets.now)).state }
+    ensures stored { storage.new ≡ (after (begun (board_of mode n1 t senders) storage.old) (packets_by sizes.now packets.now)).storage }
 {
     let started = setup(board(mode, n1, t, senders));
     let first = started.state;
@@ -216,7 +216,7 @@ fn with_answer(sum: u64, o: Outcome, held: u8, size: usize) -> u64
 
 // The sum with one more answer of the cutter in it.
 fn with_cut(sum: u64, cutting: Cutting) -> u64
-    ensures { result ≡ cutSum sum cutting }
+    ensures { result ≡ cut_sum sum cutting }
 {
     let answer = cutting.number() as u64 + cutting.length() as u64;
     wrapping_add_u64(sum, answer)
@@ -226,7 +226,7 @@ fn with_cut(sum: u64, cutting: Cutting) -> u64
 
 // How many pieces are held at these places, in one sum.
 fn page(state: Receiver, places: &[u8]) -> u64
-    ensures { result ≡ heldSum 0 state places.now }
+    ensures { result ≡ held_sum 0 state places.now }
 {
     let mut sum: u64 = 0;
     let mut i: usize = 0;

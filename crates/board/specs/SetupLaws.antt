@@ -2,13 +2,13 @@
 use Rattle.std.specs.Prelude.{ℕ, ◌≡◌, ◌≢◌, false, List, length}
 use Rattle.std.proofs.Common.{ne_eqb}
 use Rattle.answers.specs.declared.Setup.{Setup}
-use Rattle.answers.specs.Told.{callNumber}
-use Rattle.rules.specs.calls.ExactlyLaws.{setup-refuses}
-use Rattle.rules.specs.calls.Setup.{setupWithin, setupAnswer}
-use Rattle.words.specs.Words.{wordsMost}
-use Rattle.board.specs.Calls.{setupFor}
+use Rattle.answers.specs.Told.{call_number}
+use Rattle.rules.specs.calls.ExactlyLaws.{setup_refuses}
+use Rattle.rules.specs.calls.Setup.{setup_within, setup_answer}
+use Rattle.words.specs.Words.{words_most}
+use Rattle.board.specs.Calls.{setup_for}
 
 -- Another number of words than a state has is refused as any setup outside its limits is.
-pub setup-outside : (l : List ℕ) (q bad : Setup) → length l ≢ wordsMost → setupWithin bad ≡ false → setupFor l q ≡ callNumber (setupAnswer bad).call
-unfolding setupFor
-setup-outside l q bad many e = rw (ne_eqb (length l) wordsMost many, setup-refuses bad e)
+pub setup_outside : (l : List ℕ) (q bad : Setup) → length l ≢ words_most → setup_within bad ≡ false → setup_for l q ≡ call_number (setup_answer bad).call
+unfolding setup_for
+setup_outside l q bad many e = rw (ne_eqb (length l) words_most many, setup_refuses bad e)

@@ -4,50 +4,50 @@ use Rattle.std.specs.Prelude.{ℕ, ◌≡◌, refl}
 use Rattle.answers.specs.declared.Answer.{Answer}
 use Rattle.answers.specs.declared.Missing as by-value-missing
 use Rattle.answers.specs.declared.Ticked as by_value
-use Rattle.answers.specs.Told.{WhereTold, whereTold, MessageTold, messageTold, ClockTold, clockTold, QuestionTold, questionTold}
+use Rattle.answers.specs.Told.{WhereTold, where_told, MessageTold, message_told, ClockTold, clock_told, QuestionTold, question_told}
 use Rattle.fault.specs.declared.writing.Writing.{Writing}
-use Rattle.fault.specs.Writing.{WritingTold, writingTold}
+use Rattle.fault.specs.Writing.{WritingTold, writing_told}
 use Rattle.board.specs.declared.Told.{Told}
 use Rattle.board.specs.declared.Missing.{Missing}
 use Rattle.board.specs.declared.Ticked.{Ticked}
 use Rattle.board.specs.declared.Written.{Written}
-use Rattle.board.specs.Calls.{toldOf, tickedOf, missingOf, written_of}
+use Rattle.board.specs.Calls.{told_of, ticked_of, missing_of, written_of}
 
 -- ---- the message call
 
-abbrev messageBack : Told → WhereTold → MessageTold
-messageBack t lies = record {
+abbrev message_back : Told → WhereTold → MessageTold
+message_back t lies = record {
   outcome = record { number = t.number; verdict = t.verdict; skipped = t.skipped; age = t.age };
   held = t.held;
-  droppedVersion = t.dropped_version;
-  droppedNumber = t.dropped_number;
+  dropped_version = t.dropped_version;
+  dropped_number = t.dropped_number;
   lies = lies;
 }
 
-pub message-same : (a : Answer) (size : ℕ) → messageBack (toldOf a size) (whereTold a.lies) ≡ messageTold a
-message-same a size = refl
+pub message_same : (a : Answer) (size : ℕ) → message_back (told_of a size) (where_told a.lies) ≡ message_told a
+message_same a size = refl
 
-pub slice-same : (a : Answer) (size : ℕ) → (toldOf a size).slice ≡ (whereTold a.lies).slice
-slice-same a size = refl
+pub slice_same : (a : Answer) (size : ℕ) → (told_of a size).slice ≡ (where_told a.lies).slice
+slice_same a size = refl
 
 -- ---- the clock call, and the question
 
-abbrev clockBack : Ticked → ClockTold
-clockBack t = record { number = t.number; dropped = t.dropped; dead = t.dead }
+abbrev clock_back : Ticked → ClockTold
+clock_back t = record { number = t.number; dropped = t.dropped; dead = t.dead }
 
-pub clock-same : (a : by_value.Ticked) → clockBack (tickedOf a) ≡ clockTold a
-clock-same a = refl
+pub clock_same : (a : by_value.Ticked) → clock_back (ticked_of a) ≡ clock_told a
+clock_same a = refl
 
-abbrev questionBack : Missing → QuestionTold
-questionBack t = record { number = t.number; «open» = t.«open»; sender = t.sender; piece = t.piece }
+abbrev question_back : Missing → QuestionTold
+question_back t = record { number = t.number; «open» = t.«open»; sender = t.sender; piece = t.piece }
 
-pub question-same : (a : by-value-missing.Missing) → questionBack (missingOf a) ≡ questionTold a
-question-same a = refl
+pub question_same : (a : by-value-missing.Missing) → question_back (missing_of a) ≡ question_told a
+question_same a = refl
 
 -- ---- writing a fault section
 
-abbrev writtenBack : Written → WritingTold
-writtenBack t = record { number = t.number; length = t.length }
+abbrev written_back : Written → WritingTold
+written_back t = record { number = t.number; length = t.length }
 
-pub written_same : (w : Writing) → writtenBack (written_of w) ≡ writingTold w
+pub written_same : (w : Writing) → written_back (written_of w) ≡ writing_told w
 written_same w = refl

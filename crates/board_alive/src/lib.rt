@@ -1,9 +1,9 @@
 // The alive call on a state in lent words: one sender's words are loaded, changed and put back.
 ghost use Rattle.std.specs.Prelude.{◌≡◌};
-ghost use Rattle.rules.specs.calls.Alive.{aliveAnswer};
-ghost use Rattle.words.specs.Words.{stateIn, leftBy};
-ghost use Rattle.board.specs.Calls.{aliveFor};
-ghost use Rattle.board_alive.specs.private.Heard.{heardWords};
+ghost use Rattle.rules.specs.calls.Alive.{alive_answer};
+ghost use Rattle.words.specs.Words.{state_in, left_by};
+ghost use Rattle.board.specs.Calls.{alive_for};
+ghost use Rattle.board_alive.specs.private.Heard.{heard_words};
 
 use alive::signal_number;
 use header::read_head;
@@ -13,8 +13,8 @@ use words::{Record, places};
 
 #[unsafe(no_mangle)]
 pub extern "C" fn adp_alive(state: &mut [u64], packet: &[u8]) -> u8
-    ensures answer { result ≡ aliveFor state.old packet.now }
-    ensures left { state.new ≡ leftBy state.old (aliveAnswer (stateIn state.old) packet.now).state }
+    ensures answer { result ≡ alive_for state.old packet.now }
+    ensures left { state.new ≡ left_by state.old (alive_answer (state_in state.old) packet.now).state }
 {
     let h = read_head(packet);
     let body = read_body(packet);
@@ -33,7 +33,7 @@ pub extern "C" fn adp_alive(state: &mut [u64], packet: &[u8]) -> u8
 
 // "Mode 1: the sender is alive … Modes 2 and 3: dead from then on"
 fn heard_by(r: Record, clock: u64, body: Body) -> Record
-    ensures { result ≡ heardWords r clock body }
+    ensures { result ≡ heard_words r clock body }
 {
     if body.mode == 1 {
         let heard = Heard {

@@ -1,11 +1,11 @@
 // The clock call on a state in lent words: each sender's words are loaded, aged and put back.
 ghost use Rattle.std.specs.Prelude.{◌≡◌, cond, ◌+◌, ◌<◌};
-ghost use Rattle.map.specs.Map.{marked as markedOf};
-ghost use Rattle.rules.specs.calls.Clock.{clockAnswer, drops as dropsAt, dies as diesAt};
-ghost use Rattle.state.specs.State.{sendersMost};
-ghost use Rattle.words.specs.Words.{senderOf, stateIn, leftBy};
-ghost use Rattle.board.specs.Calls.{notTicked, clockFor};
-ghost use Rattle.board_clock.specs.private.Aged.{agedBy};
+ghost use Rattle.map.specs.Map.{marked as marked_of};
+ghost use Rattle.rules.specs.calls.Clock.{clock_answer, drops as drops_at, dies as dies_at};
+ghost use Rattle.state.specs.State.{senders_most};
+ghost use Rattle.words.specs.Words.{sender_of, state_in, left_by};
+ghost use Rattle.board.specs.Calls.{not_ticked, clock_for};
+ghost use Rattle.board_clock.specs.private.Aged.{aged_by};
 
 use board::Ticked;
 use clock::since;
@@ -15,8 +15,8 @@ use words::{Record, places};
 
 #[unsafe(no_mangle)]
 pub extern "C" fn adp_clock(state: &mut [u64], ms: u64) -> Ticked
-    ensures answer { result ≡ clockFor state.old ms }
-    ensures left { state.new ≡ leftBy state.old (clockAnswer (stateIn state.old) ms).state }
+    ensures answer { result ≡ clock_for state.old ms }
+    ensures left { state.new ≡ left_by state.old (clock_answer (state_in state.old) ms).state }
 {
     if !words_look::within(state) {
         return refused(9);
@@ -47,7 +47,7 @@ pub extern "C" fn adp_clock(state: &mut [u64], ms: u64) -> Ticked
 }
 
 fn refused(number: u8) -> Ticked
-    ensures { result ≡ notTicked number }
+    ensures { result ≡ not_ticked number }
 {
     Ticked {
         number,
@@ -58,22 +58,22 @@ fn refused(number: u8) -> Ticked
 
 // Whether the open message is T or more old.
 fn drops(r: Record, t: u64, ms: u64) -> bool
-    ensures { result ≡ dropsAt t ms (senderOf r) }
+    ensures { result ≡ drops_at t ms (sender_of r) }
 {
     (r.open == 1) & (t <= since(r.stamp, ms))
 }
 
 // Whether the alive sender has been silent for al_tm_out seconds or more.
 fn dies(r: Record, ms: u64) -> bool
-    ensures { result ≡ diesAt ms (senderOf r) }
+    ensures { result ≡ dies_at ms (sender_of r) }
 {
     (r.alive == 1) & (r.timeout <= since(r.heard, ms) / 1_000)
 }
 
 // The map, with the place i marked if something holds of the sender there.
 fn with_place(map: u64, i: u8, here: bool) -> u64
-    requires { i < sendersMost }
-    ensures { result ≡ cond here (markedOf map (i + 1)) map }
+    requires { i < senders_most }
+    ensures { result ≡ cond here (marked_of map (i + 1)) map }
 {
     if here {
         return marked(map, i + 1);
@@ -83,7 +83,7 @@ fn with_place(map: u64, i: u8, here: bool) -> u64
 
 // The words at that time.
 fn aged(r: Record, drop: bool, die: bool) -> Record
-    ensures { result ≡ agedBy r drop die }
+    ensures { result ≡ aged_by r drop die }
 {
     Record {
         address: r.address,

@@ -1,7 +1,7 @@
 // The cutter, its answer in numbers.
 ghost use Rattle.std.specs.Prelude.{◌≡◌, length};
-ghost use Rattle.cut.specs.Cutter.{cutterAnswer, cutterBuffer};
-ghost use Rattle.board.specs.Calls.{cuttingOf};
+ghost use Rattle.cut.specs.Cutter.{cutter_answer, cutter_buffer};
+ghost use Rattle.board.specs.Calls.{cutting_of};
 
 use board::Cutting;
 use cut::cutter::cutter;
@@ -15,8 +15,8 @@ pub extern "C" fn adp_cut(
     piece: u8,
     buffer: &mut [u8],
 ) -> Cutting
-    ensures answer { result ≡ cuttingOf (cutterAnswer given message.now u piece (length buffer.old)) }
-    ensures written { buffer.new ≡ cutterBuffer given message.now u piece buffer.old }
+    ensures answer { result ≡ cutting_of (cutter_answer given message.now u piece (length buffer.old)) }
+    ensures written { buffer.new ≡ cutter_buffer given message.now u piece buffer.old }
 {
     let c = cutter(given, message, u, piece, buffer);
     Cutting {

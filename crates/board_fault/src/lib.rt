@@ -1,8 +1,8 @@
 // The fault section of an alive signal, read and written for C. It stands behind octet 128 of the PDU; no call needs a state.
 ghost use Rattle.std.specs.Prelude.{◌≡◌, length};
-ghost use Rattle.fault.specs.Reading.{reading_of, deadAt, errorAt};
-ghost use Rattle.fault.specs.Writing.{writingOf, bufferOf};
-ghost use Rattle.board.specs.Calls.{optionsFor, written_of};
+ghost use Rattle.fault.specs.Reading.{reading_of, dead_at, error_at};
+ghost use Rattle.fault.specs.Writing.{writing_of, buffer_of};
+ghost use Rattle.board.specs.Calls.{options_for, written_of};
 
 use board::{Options, Written};
 use fault::reading::{Report, error_at, is_dead, options, options_at, read_section};
@@ -18,21 +18,21 @@ pub extern "C" fn adp_fault_read(section: &[u8]) -> Report
 
 #[unsafe(no_mangle)]
 pub extern "C" fn adp_fault_dead(section: &[u8], x: u32) -> bool
-    ensures { result ≡ deadAt section.now x }
+    ensures { result ≡ dead_at section.now x }
 {
     is_dead(section, x)
 }
 
 #[unsafe(no_mangle)]
 pub extern "C" fn adp_fault_error(section: &[u8], index: u32) -> Error
-    ensures { result ≡ errorAt section.now index }
+    ensures { result ≡ error_at section.now index }
 {
     error_at(section, index)
 }
 
 #[unsafe(no_mangle)]
 pub extern "C" fn adp_fault_options(section: &[u8]) -> Options
-    ensures { result ≡ optionsFor section.now }
+    ensures { result ≡ options_for section.now }
 {
     let part = options(section);
     let length = part.len();
@@ -58,8 +58,8 @@ pub extern "C" fn adp_fault_write(
     options: &[u8],
     buffer: &mut [u8],
 ) -> Written
-    ensures answer { result ≡ written_of (writingOf modules bits.now errors.now options.now (length buffer.old)) }
-    ensures written { buffer.new ≡ bufferOf modules bits.now errors.now name.now options.now buffer.old }
+    ensures answer { result ≡ written_of (writing_of modules bits.now errors.now options.now (length buffer.old)) }
+    ensures written { buffer.new ≡ buffer_of modules bits.now errors.now name.now options.now buffer.old }
 {
     let w = write_section(modules, bits, errors, *name, options, buffer);
     Written {

@@ -2,30 +2,30 @@
 use Rattle.std.specs.Prelude.{ℕ, ◌≤◌, ◌<◌, ◌≡◌, true, false, List}
 use Rattle.std.proofs.Math.Path.{sym, ap}
 use Rattle.std.proofs.Common.{◌∙◌, ⊎_elim, arith}
-use Rattle.octets.specs.Split.{true-or-false}
+use Rattle.octets.specs.Split.{true_or_false}
 use Rattle.state.specs.declared.Sender.{Sender}
-use Rattle.state.specs.HeldLaws.{held-open, held-shut, held-past, held-beyond}
-use Rattle.state.specs.State.{sendersMost, noSender, senderAt}
+use Rattle.state.specs.HeldLaws.{held_open, held_shut, held_past, held_beyond}
+use Rattle.state.specs.State.{senders_most, no_sender, sender_at}
 use Rattle.words.specs.declared.Record.{Record}
-use Rattle.words.specs.ListedLaws.{length-listed}
+use Rattle.words.specs.ListedLaws.{length_listed}
 use Rattle.words.specs.Shown.{shown}
-use Rattle.words.specs.StateLaws.{sender-in}
-use Rattle.words.specs.Words.{word, recordAt, flag, senderOf, sendersIn, stateIn}
-use Rattle.board.specs.Calls.{heldFor}
+use Rattle.words.specs.StateLaws.{sender_in_lem}
+use Rattle.words.specs.Words.{word, record_at, flag, sender_of, senders_in, state_in}
+use Rattle.board.specs.Calls.{held_for}
 
 module _ (l : List ℕ) (i : ℕ) where
-  pub past-senders : word l 4 ≤ i → 0 ≡ heldFor l i
-  past-senders h = sym (held-past (stateIn l) i h)
+  pub past_senders : word l 4 ≤ i → 0 ≡ held_for l i
+  past_senders h = sym (held_past (state_in l) i h)
 
-  pub past-places : sendersMost ≤ i → 0 ≡ heldFor l i
-  unfolding sendersIn
-  past-places h = sym (held-beyond (stateIn l) i (omega (arith, h, length-listed noSender (λ k. senderOf (recordAt l k)) sendersMost)))
+  pub past_places : senders_most ≤ i → 0 ≡ held_for l i
+  unfolding senders_in
+  past_places h = sym (held_beyond (state_in l) i (omega (arith, h, length_listed no_sender (λ k. sender_of (record_at l k)) senders_most)))
 
-  pub at-sender : i < word l 4 → i < sendersMost → (r : Record) → r ≡ recordAt l i → (s : Sender) → s ≡ shown r → s.message.held ≡ heldFor l i
+  pub at_sender : i < word l 4 → i < senders_most → (r : Record) → r ≡ record_at l i → (s : Sender) → s ≡ shown r → s.message.held ≡ held_for l i
   unfolding shown
-  at-sender here few r er s es =
-      let is : senderAt (stateIn l) i ≡ senderOf r = sender-in l i few ∙ ap senderOf (sym er) in
+  at_sender here few r er s es =
+      let is : sender_at (state_in l) i ≡ sender_of r = sender_in_lem l i few ∙ ap sender_of (sym er) in
       rw es (⊎_elim
-      (λ (yes : flag r.«open» ≡ true). rw yes (sym (held-open (stateIn l) i here (rw is yes) ∙ rw is)))
-      (λ (no : flag r.«open» ≡ false). rw no (sym (held-shut (stateIn l) i (rw is no))))
-      (true-or-false (flag r.«open»)))
+      (λ (yes : flag r.«open» ≡ true). rw yes (sym (held_open (state_in l) i here (rw is yes) ∙ rw is)))
+      (λ (no : flag r.«open» ≡ false). rw no (sym (held_shut (state_in l) i (rw is no))))
+      (true_or_false (flag r.«open»)))

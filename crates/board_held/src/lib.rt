@@ -1,13 +1,13 @@
 // How many pieces of a sender are held, of a state in lent words: for the maintenance page.
 ghost use Rattle.std.specs.Prelude.{◌≡◌};
-ghost use Rattle.board.specs.Calls.{heldFor};
+ghost use Rattle.board.specs.Calls.{held_for};
 
 use state::Receiver;
 use words::places;
 
 #[unsafe(no_mangle)]
 pub extern "C" fn adp_held(state: &[u64], place: u8) -> u8
-    ensures { result ≡ heldFor state.now place }
+    ensures { result ≡ held_for state.now place }
 {
     if words::at(state, places::COUNT) <= place as u64 {
         return 0;

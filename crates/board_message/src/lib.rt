@@ -1,12 +1,12 @@
 // The message call on a state in lent words: one sender's words are loaded, handed to `sender`, and put back.
 ghost use Rattle.std.specs.Prelude.{◌≡◌, length};
 ghost use Rattle.answers.specs.declared.Where.TheVariants.{Packet};
-ghost use Rattle.answers.specs.Told.{whereTold};
+ghost use Rattle.answers.specs.Told.{where_told};
 ghost use Rattle.rules.specs.calls.First.{first};
-ghost use Rattle.rules.specs.calls.Message.{messageAnswer};
-ghost use Rattle.words.specs.Words.{stateIn, leftBy};
-ghost use Rattle.board.specs.Calls.{partStart, partLength, inNumbers, refusedWith, messageFor, storageFor};
-ghost use Rattle.board_message.specs.private.Early.{earlyRows};
+ghost use Rattle.rules.specs.calls.Message.{message_answer};
+ghost use Rattle.words.specs.Words.{state_in, left_by};
+ghost use Rattle.board.specs.Calls.{part_start, part_length, in_numbers, refused_with, message_for, storage_for};
+ghost use Rattle.board_message.specs.private.Early.{early_rows};
 
 use answers::{Dropped, Outcome, Where};
 use board::Told;
@@ -19,9 +19,9 @@ use words_look::{place_of, within};
 
 #[unsafe(no_mangle)]
 pub extern "C" fn adp_message(state: &mut [u64], storage: &mut [u8], packet: &[u8]) -> Told
-    ensures answer { result ≡ messageFor state.old (length storage.old) packet.now }
-    ensures left { state.new ≡ leftBy state.old (messageAnswer (stateIn state.old) (length storage.old) packet.now).state }
-    ensures stored { storage.new ≡ storageFor state.old storage.old packet.now }
+    ensures answer { result ≡ message_for state.old (length storage.old) packet.now }
+    ensures left { state.new ≡ left_by state.old (message_answer (state_in state.old) (length storage.old) packet.now).state }
+    ensures stored { storage.new ≡ storage_for state.old storage.old packet.now }
 {
     let early = early_number(state, storage.len(), packet);
     if early != 0 {
@@ -60,7 +60,7 @@ pub extern "C" fn adp_message(state: &mut [u64], storage: &mut [u8], packet: &[u
 // The first of 9, 11 and 12 that applies, or 0. A header whose length is known is read without a test of each octet's
 // place; `packet_number` asks for these numbers once more, of which nothing is left in what it compiles to.
 fn early_number(state: &[u64], room: usize, packet: &[u8]) -> u8
-    ensures { result ≡ first (earlyRows state.now room packet.now) }
+    ensures { result ≡ first (early_rows state.now room packet.now) }
 {
     if !within(state) {
         return 9;
@@ -78,7 +78,7 @@ fn early_number(state: &[u64], room: usize, packet: &[u8]) -> u8
 
 // "nothing more", of a refusal but 17, which has an age
 fn refused(number: u8) -> Told
-    ensures { result ≡ refusedWith number }
+    ensures { result ≡ refused_with number }
 {
     Told {
         number,
@@ -96,7 +96,7 @@ fn refused(number: u8) -> Told
 
 // An answer in numbers, of a packet of so many octets.
 pub fn in_numbers(outcome: Outcome, held: u8, dropped: Dropped, lies: Where, size: usize) -> Told
-    ensures { result ≡ inNumbers outcome held dropped lies size }
+    ensures { result ≡ in_numbers outcome held dropped lies size }
 {
     Told {
         number: outcome.number(),
@@ -113,7 +113,7 @@ pub fn in_numbers(outcome: Outcome, held: u8, dropped: Dropped, lies: Where, siz
 }
 
 fn slice_of(lies: Where) -> u8
-    ensures { result ≡ (whereTold lies).slice }
+    ensures { result ≡ (where_told lies).slice }
 {
     match lies {
         Where::Nothing => 0,
@@ -126,7 +126,7 @@ fn slice_of(lies: Where) -> u8
 }
 
 fn start_of(lies: Where) -> usize
-    ensures { result ≡ partStart lies }
+    ensures { result ≡ part_start lies }
 {
     match lies {
         Where::Nothing => 0,
@@ -136,7 +136,7 @@ fn start_of(lies: Where) -> usize
 }
 
 fn length_of(lies: Where, size: usize) -> usize
-    ensures { result ≡ partLength lies size }
+    ensures { result ≡ part_length lies size }
 {
     match lies {
         Where::Nothing => 0,
@@ -147,7 +147,7 @@ fn length_of(lies: Where, size: usize) -> usize
 
 // How many octets stand behind the header.
 fn behind(size: usize) -> usize
-    ensures { result ≡ partLength Packet size }
+    ensures { result ≡ part_length Packet size }
 {
     if SIZE <= size { size - SIZE } else { 0 }
 }

@@ -1,7 +1,7 @@
 // The multicast call on a state in lent words, which it only reads, and on the two lent tables.
 ghost use Rattle.std.specs.Prelude.{◌≡◌};
-ghost use Rattle.board.specs.Calls.{multicastFor, tablesFor};
-ghost use Rattle.board_multicast.specs.private.Heard.{listenerIn};
+ghost use Rattle.board.specs.Calls.{multicast_for, tables_for};
+ghost use Rattle.board_multicast.specs.private.Heard.{listener_in};
 ghost use Rattle.multicast.specs.Lent.{tables};
 
 use answers::{Dropped, Listener};
@@ -22,9 +22,9 @@ pub extern "C" fn adp_multicast(
     group: u8,
     packet: &[u8],
 ) -> Told
-    ensures answer { result ≡ multicastFor state.now (tables versions.old numbers.old) group packet.now }
-    ensures versions { versions.new ≡ (tablesFor state.now (tables versions.old numbers.old) group packet.now).versions }
-    ensures numbers { numbers.new ≡ (tablesFor state.now (tables versions.old numbers.old) group packet.now).numbers }
+    ensures answer { result ≡ multicast_for state.now (tables versions.old numbers.old) group packet.now }
+    ensures versions { versions.new ≡ (tables_for state.now (tables versions.old numbers.old) group packet.now).versions }
+    ensures numbers { numbers.new ≡ (tables_for state.now (tables versions.old numbers.old) group packet.now).numbers }
 {
     let h = read_head(packet);
     let found = look(state, Address::of(h));
@@ -35,7 +35,7 @@ pub extern "C" fn adp_multicast(
 
 // What the call looks at, in the words of a state.
 fn listener(state: &[u64], found: Look) -> Listener
-    ensures { result ≡ listenerIn state.now found }
+    ensures { result ≡ listener_in state.now found }
 {
     let groups = words::groups(state);
     Listener {

@@ -1,6 +1,6 @@
 // The question, of a state in lent words.
 ghost use Rattle.std.specs.Prelude.{◌≡◌};
-ghost use Rattle.board.specs.Calls.{noneMissing, questionFor};
+ghost use Rattle.board.specs.Calls.{none_missing, question_for};
 
 use board::Missing;
 use map::lowest_missing;
@@ -8,7 +8,7 @@ use words::places;
 
 #[unsafe(no_mangle)]
 pub extern "C" fn adp_question(state: &[u64]) -> Missing
-    ensures { result ≡ questionFor state.now }
+    ensures { result ≡ question_for state.now }
 {
     if !words_look::within(state) {
         return none_open(9);
@@ -31,7 +31,7 @@ pub extern "C" fn adp_question(state: &[u64]) -> Missing
 }
 
 fn none_open(number: u8) -> Missing
-    ensures { result ≡ noneMissing number }
+    ensures { result ≡ none_missing number }
 {
     Missing {
         number,

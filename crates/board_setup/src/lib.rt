@@ -1,7 +1,7 @@
 // Setup, into lent words.
 ghost use Rattle.std.specs.Prelude.{◌≡◌, ◌++◌, length, drop};
-ghost use Rattle.words.specs.Words.{wordsMost, before, settingsWords, words_of};
-ghost use Rattle.board.specs.Calls.{setupFor, setupWords};
+ghost use Rattle.words.specs.Words.{words_most, before, settings_words, words_of};
+ghost use Rattle.board.specs.Calls.{setup_for, setup_words};
 
 use answers::Setup;
 use state::Receiver;
@@ -10,8 +10,8 @@ use words::{Record, groups_word, places};
 // Words past the senders are written 0. Other than as many words as a state has are outside setup's limits, and stay.
 #[unsafe(no_mangle)]
 pub extern "C" fn adp_setup(state: &mut [u64], settings: Setup) -> u8
-    ensures answer { result ≡ setupFor state.old settings }
-    ensures left { state.new ≡ setupWords state.old settings }
+    ensures answer { result ≡ setup_for state.old settings }
+    ensures left { state.new ≡ setup_words state.old settings }
 {
     if state.len() != places::WORDS {
         return 10;
@@ -25,7 +25,7 @@ pub extern "C" fn adp_setup(state: &mut [u64], settings: Setup) -> u8
 
 // Writes a whole state, its settings and all 16 places.
 fn write(words: &mut [u64], state: Receiver)
-    requires { length words.old ≡ wordsMost }
+    requires { length words.old ≡ words_most }
     ensures { words.new ≡ words_of state }
 {
     write_settings(words, state);
@@ -38,8 +38,8 @@ fn write(words: &mut [u64], state: Receiver)
 }
 
 fn write_settings(words: &mut [u64], state: Receiver)
-    requires { length words.old ≡ wordsMost }
-    ensures { words.new ≡ settingsWords state ++ drop before words.old }
+    requires { length words.old ≡ words_most }
+    ensures { words.new ≡ settings_words state ++ drop before words.old }
 {
     words[places::TEST] = state.test as u64;
     words[places::N1] = state.n1 as u64;

@@ -2,10 +2,10 @@
 use Rattle.std.specs.Prelude.{ℕ, ◌+◌, Bool, true, false, cond, ◌&&◌, ◌||◌, List, eqb, ltb, length, set, replicate}
 use Rattle.octets.specs.Number.{number}
 use Rattle.octets.specs.Run.{run}
-use Rattle.groups.specs.Groups.{noGroups}
+use Rattle.groups.specs.Groups.{no_groups}
 use Rattle.state.specs.declared.Address.{Address}
 use Rattle.answers.specs.declared.Setup.{Setup}
-use Rattle.state.specs.State.{sendersMost, noAddress}
+use Rattle.state.specs.State.{senders_most, no_address}
 use Rattle.capture_fields.specs.declared.Kind.{Kind}
 use Rattle.capture_fields.specs.declared.Kind.TheVariants as kind
 use Rattle.capture_fields.specs.declared.Next.{Next}
@@ -18,8 +18,8 @@ tag_of s = number 1 s 0
 abbrev pub size_of : List ℕ → ℕ
 size_of s = number 2 s 1
 
-abbrev pub headSize : ℕ
-headSize = 3
+abbrev pub head_size : ℕ
+head_size = 3
 
 -- "Tag 1 setup …", of "10, 13, 16 or 19 octets"; "Tag 2 message PDU, 3 clock (8 octets), 4 alive PDU"; "Bad is another
 -- tag, tag 1 not of 10, 13, 16 or 19 octets, tag 3 not of 8; a PDU of any length goes to its call."
@@ -28,47 +28,47 @@ kind_of tag n =
     cond (eqb tag 1 && (eqb n 10 || eqb n 13 || eqb n 16 || eqb n 19)) kind.Setup
     (cond (eqb tag 2) kind.Message (cond (eqb tag 3 && eqb n 8) kind.Clock (cond (eqb tag 4) kind.Alive kind.Bad)))
 
-abbrev pub isBad : Kind → Bool
-isBad kind.Setup = false
-isBad kind.Message = false
-isBad kind.Clock = false
-isBad kind.Alive = false
-isBad kind.Bad = true
+abbrev pub is_bad : Kind → Bool
+is_bad kind.Setup = false
+is_bad kind.Message = false
+is_bad kind.Clock = false
+is_bad kind.Alive = false
+is_bad kind.Bad = true
 
 -- What stands at the front of the octets at hand. A field is cut where octets of it are missing.
 unfoldable pub next_of : List ℕ → Next
 next_of s =
     cond (eqb (length s) 0) Nothing
-    (cond (ltb (length s) headSize) Cut
-    (cond (isBad (kind_of (tag_of s) (size_of s))) Bad
-    (cond (ltb (length s) (headSize + size_of s)) Cut (Whole (kind_of (tag_of s) (size_of s)) (size_of s)))))
+    (cond (ltb (length s) head_size) Cut
+    (cond (is_bad (kind_of (tag_of s) (size_of s))) Bad
+    (cond (ltb (length s) (head_size + size_of s)) Cut (Whole (kind_of (tag_of s) (size_of s)) (size_of s)))))
 
 -- The contents of a field of n octets.
-abbrev pub contentsOf : List ℕ → ℕ → List ℕ
-contentsOf s n = run headSize n s
+abbrev pub contents_of : List ℕ → ℕ → List ℕ
+contents_of s n = run head_size n s
 
 -- ---- the contents of a setup
 
 -- "then data field (1) and node (2) for each of 1 to 4 senders"
-abbrev pub addressIn : List ℕ → ℕ → Address
-addressIn s at = record { field = record { 0 = number 1 s at }; node = record { 0 = number 2 s (at + 1) } }
+abbrev pub address_in : List ℕ → ℕ → Address
+address_in s at = record { field = record { 0 = number 1 s at }; node = record { 0 = number 2 s (at + 1) } }
 
 -- How many senders a setup of n octets has.
-unfoldable pub sendersOf : ℕ → ℕ
-sendersOf n = cond (eqb n 10) 1 (cond (eqb n 13) 2 (cond (eqb n 16) 3 (cond (eqb n 19) 4 0)))
+unfoldable pub senders_of : ℕ → ℕ
+senders_of n = cond (eqb n 10) 1 (cond (eqb n 13) 2 (cond (eqb n 16) 3 (cond (eqb n 19) 4 0)))
 
 -- "mode (1 octet …), N1 (2), T (4), then …". Places past the senders are not looked at. 02, Item 5: "0 to 8 registered groups
 -- (0 in the program)".
-unfoldable pub setupOf : List ℕ → Setup
-setupOf s = record {
+unfoldable pub setup_of : List ℕ → Setup
+setup_of s = record {
   mode = number 1 s 0;
   n1 = number 2 s 1;
   t = number 4 s 3;
-  count = sendersOf (length s);
-  senders = set (set (set (set (replicate sendersMost noAddress) 0 (addressIn s 7)) 1 (addressIn s 10)) 2 (addressIn s 13)) 3 (addressIn s 16);
-  groups = noGroups;
+  count = senders_of (length s);
+  senders = set (set (set (set (replicate senders_most no_address) 0 (address_in s 7)) 1 (address_in s 10)) 2 (address_in s 13)) 3 (address_in s 16);
+  groups = no_groups;
 }
 
 -- "3 clock (8 octets)"
-abbrev pub clockOf : List ℕ → ℕ
-clockOf s = number 8 s 0
+abbrev pub clock_of : List ℕ → ℕ
+clock_of s = number 8 s 0

@@ -2,7 +2,7 @@
 //
 // Every public function is total: it takes any octets.
 ghost use Rattle.std.specs.Prelude.{◌≡◌, ◌≤◌};
-ghost use Rattle.capture_fields.specs.Field.{kind_of, isBad, next_of, contentsOf, setupOf, addressIn, sendersOf, clockOf};
+ghost use Rattle.capture_fields.specs.Field.{kind_of, is_bad, next_of, contents_of, setup_of, address_in, senders_of, clock_of};
 
 use answers::Setup;
 use groups::Groups;
@@ -74,7 +74,7 @@ pub fn next_field(octets: &[u8]) -> Next
 }
 
 fn is_bad(kind: Kind) -> bool
-    ensures { result ≡ isBad kind }
+    ensures { result ≡ is_bad kind }
 {
     match kind {
         Kind::Setup => false,
@@ -87,7 +87,7 @@ fn is_bad(kind: Kind) -> bool
 
 // The contents of the field at the front, of this many octets; of a field that is cut, those that are there.
 pub fn contents(octets: &[u8], size: usize) -> &[u8]
-    ensures { result.now ≡ contentsOf octets.now size }
+    ensures { result.now ≡ contents_of octets.now size }
 {
     run(octets, HEAD, size)
 }
@@ -95,7 +95,7 @@ pub fn contents(octets: &[u8], size: usize) -> &[u8]
 // ---- the contents of a setup and of a clock
 
 pub fn setup_of(contents: &[u8]) -> Setup
-    ensures { result ≡ setupOf contents.now }
+    ensures { result ≡ setup_of contents.now }
 {
     let mut senders = [Address::NONE; Receiver::PLACES];
     senders[0] = address_in(contents, 7);
@@ -114,7 +114,7 @@ pub fn setup_of(contents: &[u8]) -> Setup
 
 // How many senders a setup of this many octets has.
 fn senders_of(size: usize) -> u8
-    ensures { result ≡ sendersOf size }
+    ensures { result ≡ senders_of size }
 {
     if size == 10 {
         return 1;
@@ -130,7 +130,7 @@ fn senders_of(size: usize) -> u8
 
 fn address_in(contents: &[u8], at: usize) -> Address
     requires { at ≤ 16 }
-    ensures { result ≡ addressIn contents.now at }
+    ensures { result ≡ address_in contents.now at }
 {
     let field = DataField(read1(contents, at));
     let node = Node(read2(contents, at + 1));
@@ -138,7 +138,7 @@ fn address_in(contents: &[u8], at: usize) -> Address
 }
 
 pub fn clock_of(contents: &[u8]) -> u64
-    ensures { result ≡ clockOf contents.now }
+    ensures { result ≡ clock_of contents.now }
 {
     read8(contents, 0)
 }

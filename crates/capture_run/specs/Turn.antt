@@ -5,95 +5,95 @@ use Rattle.answers.specs.declared.Answer.{Answer}
 use Rattle.answers.specs.declared.Noted.{Noted}
 use Rattle.answers.specs.declared.Started.{Started}
 use Rattle.answers.specs.declared.Ticked.{Ticked}
-use Rattle.answers.specs.Told.{OutcomeTold, messageTold, callNumber, clockTold}
-use Rattle.rules.specs.calls.Alive.{aliveAnswer}
-use Rattle.rules.specs.calls.Clock.{clockAnswer}
-use Rattle.rules.specs.calls.Message.{area, messageAnswer, messageStorage}
+use Rattle.answers.specs.Told.{OutcomeTold, message_told, call_number, clock_told}
+use Rattle.rules.specs.calls.Alive.{alive_answer}
+use Rattle.rules.specs.calls.Clock.{clock_answer}
+use Rattle.rules.specs.calls.Message.{area, message_answer, message_storage}
 use Rattle.rules.specs.calls.Part.{part_of}
-use Rattle.rules.specs.calls.Setup.{setupAnswer}
+use Rattle.rules.specs.calls.Setup.{setup_answer}
 use Rattle.capture_fields.specs.declared.Kind.{Kind}
 use Rattle.capture_fields.specs.declared.Kind.TheVariants as kind
 use Rattle.capture_fields.specs.declared.Next.{Next}
 use Rattle.capture_fields.specs.declared.Next.TheVariants as next
 use Rattle.capture_lines.specs.declared.Line.TheVariants as line
 use Rattle.capture_run.specs.declared.Turn.{Turn}
-use Rattle.capture_fields.specs.Field.{size_of, headSize, contentsOf, setupOf, clockOf}
+use Rattle.capture_fields.specs.Field.{size_of, head_size, contents_of, setup_of, clock_of}
 
 -- ---- one call
 
 -- "S answer"; "a refused setup leaves the state in use"
-abbrev pub startedTurn : Receiver → Started → Turn
-startedTurn w a = record {
-  state = cond (eqb (callNumber a.call) 0) a.state w;
-  line = line.Setup (callNumber a.call);
+abbrev pub started_turn : Receiver → Started → Turn
+started_turn w a = record {
+  state = cond (eqb (call_number a.call) 0) a.state w;
+  line = line.Setup (call_number a.call);
   on = true;
 }
 
 -- 02, Item 6: with 17 "the program prints it as the P line's length": how far back the number lies.
-abbrev pub lengthShown : OutcomeTold → ℕ → ℕ
-lengthShown t n = cond (eqb t.number 17) t.age n
+abbrev pub length_shown : OutcomeTold → ℕ → ℕ
+length_shown t n = cond (eqb t.number 17) t.age n
 
 -- "P answer verdict held length (held: pieces then held for the PDU's sender, 0 on a refusal; length of a delivery,
 -- otherwise 0)"
-abbrev pub answeredTurn : Answer → List ℕ → Turn
-answeredTurn a delivered = record {
+abbrev pub answered_turn : Answer → List ℕ → Turn
+answered_turn a delivered = record {
   state = a.state;
-  line = line.Message (messageTold a).outcome.number (messageTold a).outcome.verdict (messageTold a).held (lengthShown (messageTold a).outcome (length delivered));
+  line = line.Message (message_told a).outcome.number (message_told a).outcome.verdict (message_told a).held (length_shown (message_told a).outcome (length delivered));
   on = true;
 }
 
 -- "C answer, dropped map, dead map (both 0 on a refusal)"
-abbrev pub tickedTurn : Ticked → Turn
-tickedTurn a = record { state = a.state; line = line.Clock (clockTold a).number (clockTold a).dropped (clockTold a).dead; on = true }
+abbrev pub ticked_turn : Ticked → Turn
+ticked_turn a = record { state = a.state; line = line.Clock (clock_told a).number (clock_told a).dropped (clock_told a).dead; on = true }
 
 -- "A answer"
-abbrev pub notedTurn : Noted → Turn
-notedTurn a = record { state = a.state; line = line.Alive (callNumber a.call); on = true }
+abbrev pub noted_turn : Noted → Turn
+noted_turn a = record { state = a.state; line = line.Alive (call_number a.call); on = true }
 
 -- "A bad or cut field ends the run with the line "E"."
-abbrev pub endTurn : Receiver → Turn
-endTurn w = record { state = w; line = line.End; on = false }
+abbrev pub end_turn : Receiver → Turn
+end_turn w = record { state = w; line = line.End; on = false }
 
 -- ---- one field
 
 -- What a field with these contents does.
 unfoldable pub turn_of : Receiver → List ℕ → Kind → List ℕ → Turn
-turn_of w storage kind.Setup c = startedTurn w (setupAnswer (setupOf c))
+turn_of w storage kind.Setup c = started_turn w (setup_answer (setup_of c))
 turn_of w storage kind.Message c =
-    answeredTurn (messageAnswer w (length storage) c) (part_of (messageAnswer w (length storage) c).lies c (messageStorage w storage c))
-turn_of w storage kind.Clock c = tickedTurn (clockAnswer w (clockOf c))
-turn_of w storage kind.Alive c = notedTurn (aliveAnswer w c)
-turn_of w storage kind.Bad c = endTurn w
+    answered_turn (message_answer w (length storage) c) (part_of (message_answer w (length storage) c).lies c (message_storage w storage c))
+turn_of w storage kind.Clock c = ticked_turn (clock_answer w (clock_of c))
+turn_of w storage kind.Alive c = noted_turn (alive_answer w c)
+turn_of w storage kind.Bad c = end_turn w
 
 -- What it leaves in the storage.
-unfoldable pub storageOf : Receiver → List ℕ → Kind → List ℕ → List ℕ
-storageOf w storage kind.Setup c = storage
-storageOf w storage kind.Message c = messageStorage w storage c
-storageOf w storage kind.Clock c = storage
-storageOf w storage kind.Alive c = storage
-storageOf w storage kind.Bad c = storage
+unfoldable pub storage_of : Receiver → List ℕ → Kind → List ℕ → List ℕ
+storage_of w storage kind.Setup c = storage
+storage_of w storage kind.Message c = message_storage w storage c
+storage_of w storage kind.Clock c = storage
+storage_of w storage kind.Alive c = storage
+storage_of w storage kind.Bad c = storage
 
 -- The field at the front of what was read: nothing more to read ends the run without a line.
-unfoldable pub turnBy : Receiver → List ℕ → List ℕ → Next → Turn
-turnBy w storage s next.Nothing = record { state = w; line = line.Nothing; on = false }
-turnBy w storage s next.Cut = endTurn w
-turnBy w storage s next.Bad = endTurn w
-turnBy w storage s (next.Whole k n) = turn_of w storage k (contentsOf s n)
+unfoldable pub turn_by : Receiver → List ℕ → List ℕ → Next → Turn
+turn_by w storage s next.Nothing = record { state = w; line = line.Nothing; on = false }
+turn_by w storage s next.Cut = end_turn w
+turn_by w storage s next.Bad = end_turn w
+turn_by w storage s (next.Whole k n) = turn_of w storage k (contents_of s n)
 
-unfoldable pub turnStorage : Receiver → List ℕ → List ℕ → Next → List ℕ
-turnStorage w storage s next.Nothing = storage
-turnStorage w storage s next.Cut = storage
-turnStorage w storage s next.Bad = storage
-turnStorage w storage s (next.Whole k n) = storageOf w storage k (contentsOf s n)
+unfoldable pub turn_storage : Receiver → List ℕ → List ℕ → Next → List ℕ
+turn_storage w storage s next.Nothing = storage
+turn_storage w storage s next.Cut = storage
+turn_storage w storage s next.Bad = storage
+turn_storage w storage s (next.Whole k n) = storage_of w storage k (contents_of s n)
 
 -- ---- what is read and lent
 
 -- How many octets of contents belong to a head: none to one that is cut or bad.
-unfoldable pub wantedBy : List ℕ → Next → ℕ
-wantedBy s next.Nothing = 0
-wantedBy s next.Cut = cond (eqb (length s) headSize) (size_of s) 0
-wantedBy s next.Bad = 0
-wantedBy s (next.Whole k n) = 0
+unfoldable pub wanted_by : List ℕ → Next → ℕ
+wanted_by s next.Nothing = 0
+wanted_by s next.Cut = cond (eqb (length s) head_size) (size_of s) 0
+wanted_by s next.Bad = 0
+wanted_by s (next.Whole k n) = 0
 
 -- "The storage is exactly 16,384 octets for each sender", as far as there is room.
 abbrev pub lent_of : ℕ → ℕ → ℕ

@@ -3,13 +3,13 @@
 // Every public function is total: octets, states and storage may be any. What a program adds is reading and writing
 // alone.
 ghost use Rattle.std.specs.Prelude.{◌≡◌, cond, eqb, length, ◌≤◌};
-ghost use Rattle.answers.specs.Told.{outcomeTold};
-ghost use Rattle.rules.specs.calls.Alive.{aliveAnswer};
-ghost use Rattle.rules.specs.calls.Clock.{clockAnswer};
-ghost use Rattle.rules.specs.calls.Message.{messageStorage};
-ghost use Rattle.rules.specs.calls.Setup.{setupAnswer};
-ghost use Rattle.capture_fields.specs.Field.{size_of, next_of, setupOf, clockOf};
-ghost use Rattle.capture_run.specs.Turn.{lengthShown, startedTurn, tickedTurn, notedTurn, endTurn, turn_of, storageOf, turnBy, turnStorage, wantedBy, lent_of};
+ghost use Rattle.answers.specs.Told.{outcome_told};
+ghost use Rattle.rules.specs.calls.Alive.{alive_answer};
+ghost use Rattle.rules.specs.calls.Clock.{clock_answer};
+ghost use Rattle.rules.specs.calls.Message.{message_storage};
+ghost use Rattle.rules.specs.calls.Setup.{setup_answer};
+ghost use Rattle.capture_fields.specs.Field.{size_of, next_of, setup_of, clock_of};
+ghost use Rattle.capture_run.specs.Turn.{length_shown, started_turn, ticked_turn, noted_turn, end_turn, turn_of, storage_of, turn_by, turn_storage, wanted_by, lent_of};
 ghost use Rattle.capture_fields.specs.declared.Kind.TheVariants as kind;
 
 use alive::alive;
@@ -33,8 +33,8 @@ pub struct Turn {
 
 // The field at the front of what was read.
 pub fn next_turn(state: Receiver, storage: &mut [u8], read: &[u8]) -> Turn
-    ensures answer { result ≡ turnBy state storage.old read.now (next_of read.now) }
-    ensures stored { storage.new ≡ turnStorage state storage.old read.now (next_of read.now) }
+    ensures answer { result ≡ turn_by state storage.old read.now (next_of read.now) }
+    ensures stored { storage.new ≡ turn_storage state storage.old read.now (next_of read.now) }
 {
     let next = next_field(read);
     match next {
@@ -50,7 +50,7 @@ pub fn next_turn(state: Receiver, storage: &mut [u8], read: &[u8]) -> Turn
 }
 
 fn end(state: Receiver) -> Turn
-    ensures { result ≡ endTurn state }
+    ensures { result ≡ end_turn state }
 {
     Turn {
         state,
@@ -62,7 +62,7 @@ fn end(state: Receiver) -> Turn
 // What a field of this kind with these contents does.
 pub fn turn_of(state: Receiver, storage: &mut [u8], kind: Kind, contents: &[u8]) -> Turn
     ensures answer { result ≡ turn_of state storage.old kind contents.now }
-    ensures stored { storage.new ≡ storageOf state storage.old kind contents.now }
+    ensures stored { storage.new ≡ storage_of state storage.old kind contents.now }
 {
     match kind {
         Kind::Setup => setup_turn(state, contents),
@@ -75,7 +75,7 @@ pub fn turn_of(state: Receiver, storage: &mut [u8], kind: Kind, contents: &[u8])
 
 // A refused setup leaves the state in use.
 fn setup_turn(state: Receiver, contents: &[u8]) -> Turn
-    ensures { result ≡ startedTurn state (setupAnswer (setupOf contents.now)) }
+    ensures { result ≡ started_turn state (setup_answer (setup_of contents.now)) }
 {
     let a = setup(setup_of(contents));
     let call = a.call;
@@ -98,7 +98,7 @@ fn setup_turn(state: Receiver, contents: &[u8]) -> Turn
 
 fn message_turn(state: Receiver, storage: &mut [u8], contents: &[u8]) -> Turn
     ensures answer { result ≡ turn_of state storage.old kind.Message contents.now }
-    ensures stored { storage.new ≡ messageStorage state storage.old contents.now }
+    ensures stored { storage.new ≡ message_storage state storage.old contents.now }
 {
     let a = message(state, storage, contents);
     let outcome = a.outcome;
@@ -120,7 +120,7 @@ fn message_turn(state: Receiver, storage: &mut [u8], contents: &[u8]) -> Turn
 
 // The length of a delivery, and with 17 how old the repeat was.
 fn shown(outcome: Outcome, length: usize) -> usize
-    ensures { result ≡ lengthShown (outcomeTold outcome) length }
+    ensures { result ≡ length_shown (outcome_told outcome) length }
 {
     if outcome.number() == 17 {
         outcome.age() as usize
@@ -130,7 +130,7 @@ fn shown(outcome: Outcome, length: usize) -> usize
 }
 
 fn clock_turn(state: Receiver, contents: &[u8]) -> Turn
-    ensures { result ≡ tickedTurn (clockAnswer state (clockOf contents.now)) }
+    ensures { result ≡ ticked_turn (clock_answer state (clock_of contents.now)) }
 {
     let a = clock(state, clock_of(contents));
     let call = a.call;
@@ -148,7 +148,7 @@ fn clock_turn(state: Receiver, contents: &[u8]) -> Turn
 }
 
 fn alive_turn(state: Receiver, contents: &[u8]) -> Turn
-    ensures { result ≡ notedTurn (aliveAnswer state contents.now) }
+    ensures { result ≡ noted_turn (alive_answer state contents.now) }
 {
     let a = alive(state, contents);
     let call = a.call;
@@ -167,7 +167,7 @@ fn alive_turn(state: Receiver, contents: &[u8]) -> Turn
 
 // How many octets of contents are to be read behind this head.
 pub fn wanted(head: &[u8]) -> usize
-    ensures value { result ≡ wantedBy head.now (next_of head.now) }
+    ensures value { result ≡ wanted_by head.now (next_of head.now) }
     ensures upper_bound { result ≤ 65535 }
 {
     let next = next_field(head);

@@ -1,13 +1,13 @@
 // The clock call: the only one that moves time. It drops old messages and calls silent senders dead.
 ghost use Rattle.std.specs.Prelude.{◌≡◌, cond, ◌+◌, ◌-◌, ◌*◌, ◌^◌, ◌<◌};
-ghost use Rattle.rules.specs.calls.Clock.{drops as dropsAt, dies as diesAt, aged as agedAt, clockAnswer};
-ghost use Rattle.state.specs.State.{sendersMost, noMessage, noHeard};
+ghost use Rattle.rules.specs.calls.Clock.{drops as drops_at, dies as dies_at, aged as aged_at, clock_answer};
+ghost use Rattle.state.specs.State.{senders_most, no_message, no_heard};
 
 use answers::{Call, Ticked};
 use state::{Heard, Message, Receiver, Sender};
 
 pub fn clock(mut state: Receiver, ms: u64) -> Ticked
-    ensures { result ≡ clockAnswer state ms }
+    ensures { result ≡ clock_answer state ms }
 {
     if !state.within() {
         return Ticked {
@@ -49,14 +49,14 @@ pub fn clock(mut state: Receiver, ms: u64) -> Ticked
 
 // Whether the open message is T or more old.
 fn drops(s: Sender, t: u32, ms: u64) -> bool
-    ensures { result ≡ dropsAt t ms s }
+    ensures { result ≡ drops_at t ms s }
 {
     s.open & (t as u64 <= since(s.message.stamp, ms))
 }
 
 // Whether the alive sender has been silent for al_tm_out seconds or more.
 fn dies(s: Sender, ms: u64) -> bool
-    ensures { result ≡ diesAt ms s }
+    ensures { result ≡ dies_at ms s }
 {
     s.alive & (1_000 * (s.heard.timeout as u64) <= since(s.heard.stamp, ms))
 }
@@ -70,7 +70,7 @@ pub fn since(stamp: u64, ms: u64) -> u64
 
 // The map, with the place i marked if something holds of the sender there.
 fn with_place(map: u16, i: u8, here: bool) -> u16
-    requires { (i < sendersMost) × (map < 2 ^ i) }
+    requires { (i < senders_most) × (map < 2 ^ i) }
     ensures { result ≡ map + cond here (2 ^ i) 0 }
 {
     if here { map + (1u16 << i) } else { map }
@@ -78,7 +78,7 @@ fn with_place(map: u16, i: u8, here: bool) -> u16
 
 // The record at that time.
 fn aged(s: Sender, t: u32, ms: u64) -> Sender
-    ensures { result ≡ agedAt t ms s }
+    ensures { result ≡ aged_at t ms s }
 {
     let drop = drops(s, t, ms);
     let die = dies(s, ms);
@@ -89,7 +89,7 @@ fn aged(s: Sender, t: u32, ms: u64) -> Sender
 }
 
 fn message_after(s: Sender, drop: bool) -> Message
-    ensures { result ≡ cond drop noMessage s.message }
+    ensures { result ≡ cond drop no_message s.message }
 {
     if drop {
         return Message::NONE;
@@ -98,7 +98,7 @@ fn message_after(s: Sender, drop: bool) -> Message
 }
 
 fn heard_after(s: Sender, die: bool) -> Heard
-    ensures { result ≡ cond die noHeard s.heard }
+    ensures { result ≡ cond die no_heard s.heard }
 {
     if die {
         return Heard::NONE;

@@ -3,9 +3,9 @@ use Rattle.std.specs.Prelude.{◌≡◌, refl, Bool, true, ◌&&◌, List, [], �
 use Rattle.ring.specs.declared.Verdict.{Verdict}
 use Rattle.ring.specs.declared.Verdict.TheVariants.{Repeat, Next, Gap}
 use Rattle.ring.specs.Ring.{M, remainder}
-use Rattle.ring.specs.Check.{check, rule4, verdictNumber, verdictSkipped, verdictAge}
-use Rattle.cut.specs.Pieces.{pieces, pieceLength}
-use Rattle.cut.specs.Cutter.{cutFor}
+use Rattle.ring.specs.Check.{check, rule4, verdict_number, verdict_skipped, verdict_age}
+use Rattle.cut.specs.Pieces.{pieces, piece_length}
+use Rattle.cut.specs.Cutter.{cut_for}
 
 pub data Edge : Type 0 where
   -- n octets at u a piece: how many pieces; ML; the BSIZE of piece c
@@ -16,12 +16,12 @@ pub data Edge : Type 0 where
   verdict : (r s : ℕ) → Verdict → Edge
 
 abbrev pub same : Verdict → Verdict → Bool
-same a b = eqb (verdictNumber a) (verdictNumber b) && eqb (verdictSkipped a) (verdictSkipped b) && eqb (verdictAge a) (verdictAge b)
+same a b = eqb (verdict_number a) (verdict_number b) && eqb (verdict_skipped a) (verdict_skipped b) && eqb (verdict_age a) (verdict_age b)
 
 pub met : Edge → Bool
 met (count n u t) = eqb (pieces n u) t
-met (ml n u k) = eqb (cutFor n u 1).ml k
-met (bsize n u c k) = eqb (cutFor n u c).bsize k
+met (ml n u k) = eqb (cut_for n u 1).ml k
+met (bsize n u c k) = eqb (cut_for n u c).bsize k
 met (verdict r s v) = same (check 16 (record { 0 = 5 }) (record { 0 = r }) (record { 0 = 5 }) (record { 0 = s })) v
 
 pub all : List Edge → Bool
@@ -45,6 +45,6 @@ edges =
     -- "R M: 1 next. R 3: 2147483635 repeat, 2147483634 gap."
     ∷ verdict M 1 Next ∷ verdict 3 2147483635 (Repeat 15) ∷ verdict 3 2147483634 (Gap 2147483630) ∷ []
 
-pub every-edge : all edges ≡ true
-unfolding all met edges pieces pieceLength check rule4 remainder
-every-edge = refl
+pub every_edge : all edges ≡ true
+unfolding all met edges pieces piece_length check rule4 remainder
+every_edge = refl

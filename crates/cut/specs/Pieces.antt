@@ -4,30 +4,30 @@ use Rattle.std.specs.Prelude.{ℕ, zero, suc, ◌+◌, ◌-◌, ◌*◌, ◌/◌
 use Rattle.octets.specs.Run.{run}
 
 -- "Let n be the message length (0 to 16,384) and u the piece length, 256 to 1,396"
-abbrev pub mostOctets : ℕ
-mostOctets = 16384
+abbrev pub most_octets : ℕ
+most_octets = 16384
 
-abbrev pub leastUnit : ℕ
-leastUnit = 256
+abbrev pub least_unit : ℕ
+least_unit = 256
 
-abbrev pub mostUnit : ℕ
-mostUnit = 1396
+abbrev pub most_unit : ℕ
+most_unit = 1396
 
 -- "If n ≤ u there is one piece, also for n = 0. Otherwise there are n / u rounded up"
 unfoldable pub pieces : ℕ → ℕ → ℕ
 pieces n u = cond (leb n u) 1 ((n + (u - 1)) / u)
 
 -- "Its place in the message is (CBN − 1) × u."
-abbrev pub piecePlace : ℕ → ℕ → ℕ
-piecePlace u c = (c - 1) * u
+abbrev pub piece_place : ℕ → ℕ → ℕ
+piece_place u c = (c - 1) * u
 
 -- "All but the last carry u octets, the last carries the rest."
-unfoldable pub pieceLength : ℕ → ℕ → ℕ → ℕ
-pieceLength n u c = cond (ltb c (pieces n u)) u (n - piecePlace u c)
+unfoldable pub piece_length : ℕ → ℕ → ℕ → ℕ
+piece_length n u c = cond (ltb c (pieces n u)) u (n - piece_place u c)
 
 -- Piece c of a message.
 unfoldable pub piece : List ℕ → ℕ → ℕ → List ℕ
-piece m u c = run (piecePlace u c) (pieceLength (length m) u c) m
+piece m u c = run (piece_place u c) (piece_length (length m) u c) m
 
 -- Pieces 1 to t, one after the other.
 unfoldable pub joined : ℕ → (ℕ → List ℕ) → List ℕ

@@ -12,7 +12,7 @@ use Rattle.cut.specs.Possible.{possible}
 -- "If n ≤ u there is one piece, also for n = 0. Otherwise there are n / u rounded up, at most 64."
 pub record CountIs (n u t : ℕ) : Type 0 where
   pub one : n ≤ u → t ≡ 1
-  pub rounded-up : u < n → ((t - 1) * u < n) × (n ≤ t * u)
+  pub rounded_up : u < n → ((t - 1) * u < n) × (n ≤ t * u)
   pub least : 1 ≤ t
   pub most : t ≤ 64
 
@@ -28,7 +28,7 @@ pub record Limits (g : Given) (n u c : ℕ) : Type 0 where
   pub octets : n ≤ 16384
   pub unit : (256 ≤ u) × (u ≤ 1396)
   pub piece : (1 ≤ c) × (c ≤ pieces n u)
-  pub data-field : (1 ≤ g.field.0) × (g.field.0 ≤ 255)
+  pub data_field_octet : (1 ≤ g.field.0) × (g.field.0 ≤ 255)
   pub node : (1 ≤ g.node.0) × (g.node.0 ≤ 4095)
   pub number : (1 ≤ g.number.0) × (g.number.0 ≤ 2147483647)
   pub code : (1 ≤ g.tcd) × (g.tcd ≤ 59999)
@@ -49,14 +49,14 @@ pub record CutsAsPrinted : Type 0 where
 -- 1) × u < n ≤ TBN × u. With CBN = TBN > 1: n − p is positive and divides evenly by TBN − 1, the quotient is u, 256 ≤ u
 -- ≤ 1,396, and 1 ≤ p ≤ u." c is CBN, t is TBN.
 pub data PossibleCut (n p c t : ℕ) : Type 0 where
-  one_piece : n ≤ 16384 → c ≡ 1 → t ≡ 1 → p ≡ n → PossibleCut n p c t
-  front-piece : n ≤ 16384 → 1 ≤ c → c < t → 256 ≤ p → p ≤ 1396 → (t - 1) * p < n → n ≤ t * p → PossibleCut n p c t
-  last-piece : {u : ℕ} → n ≤ 16384 → 1 < c → c ≡ t → n ≡ (t - 1) * u + p → 256 ≤ u → u ≤ 1396 → 1 ≤ p → p ≤ u → PossibleCut n p c t
+  one_piece_lem : n ≤ 16384 → c ≡ 1 → t ≡ 1 → p ≡ n → PossibleCut n p c t
+  front_piece : n ≤ 16384 → 1 ≤ c → c < t → 256 ≤ p → p ≤ 1396 → (t - 1) * p < n → n ≤ t * p → PossibleCut n p c t
+  last_piece : {u : ℕ} → n ≤ 16384 → 1 < c → c ≡ t → n ≡ (t - 1) * u + p → 256 ≤ u → u ≤ 1396 → 1 ≤ p → p ≤ u → PossibleCut n p c t
 
 -- "Let n = ML − 64 and p = BSIZE − 64", neither below 0.
 pub record IsPossible (cut : Cut) : Type 0 where
-  pub ml-least : 64 ≤ cut.ml
-  pub bsize-least : 64 ≤ cut.bsize
+  pub ml_least : 64 ≤ cut.ml
+  pub bsize_least : 64 ≤ cut.bsize
   pub needed : PossibleCut (cut.ml - 64) (cut.bsize - 64) cut.cbn cut.tbn
 
 -- A cut is possible exactly when the paper says so.

@@ -3,8 +3,8 @@
 // Every public function is total. Lengths are in octets, and pieces are counted from 1.
 ghost use Rattle.std.specs.Prelude.{◌≡◌, true, cond, length};
 ghost use Rattle.octets.specs.Run.{laid};
-ghost use Rattle.cut.specs.Pieces.{pieces as piecesOf};
-ghost use Rattle.cut.specs.Cutter.{cutFor, pdu, givenWithin, pieceWithin, cuts, cutterAnswer, cutterBuffer, cutterTold};
+ghost use Rattle.cut.specs.Pieces.{pieces as pieces_of};
+ghost use Rattle.cut.specs.Cutter.{cut_for, pdu, given_within, piece_within, cuts, cutter_answer, cutter_buffer, cutter_told};
 
 use crate::pieces::{MOST_OCTETS, length_among, piece_place, pieces};
 use crate::possible::is_unit;
@@ -22,7 +22,7 @@ pub enum Cutting {
 impl Cutting {
     // 0 or 23.
     pub fn number(self) -> u8
-        ensures { result ≡ (cutterTold self).number }
+        ensures { result ≡ (cutter_told self).number }
     {
         match self {
             Cutting::Written(_) => 0,
@@ -32,7 +32,7 @@ impl Cutting {
 
     // The PDU's length, 0 on a refusal.
     pub fn length(self) -> u16
-        ensures { result ≡ (cutterTold self).length }
+        ensures { result ≡ (cutter_told self).length }
     {
         match self {
             Cutting::Written(length) => length,
@@ -44,8 +44,8 @@ impl Cutting {
 // All refusals have one number, so what costs least is tried first; the pieces are counted once. The buffer may be slow
 // memory: nothing is stored before nothing is left to refuse, and then each octet of the PDU once, in rising order.
 pub fn cutter(given: Given, message: &[u8], u: u16, piece: u8, buffer: &mut [u8]) -> Cutting
-    ensures answer { result ≡ cutterAnswer given message.now u piece (length buffer.old) }
-    ensures written { buffer.new ≡ cutterBuffer given message.now u piece buffer.old }
+    ensures answer { result ≡ cutter_answer given message.now u piece (length buffer.old) }
+    ensures written { buffer.new ≡ cutter_buffer given message.now u piece buffer.old }
 {
     let n = message.len();
     let t = counted(n, u, piece);
@@ -66,7 +66,7 @@ pub fn cutter(given: Given, message: &[u8], u: u16, piece: u8, buffer: &mut [u8]
 // The number of pieces, or 0 where n, u or the piece number is outside its limits. None is counted before n and u are
 // known to be within theirs: that takes a division.
 fn counted(n: usize, u: u16, c: u8) -> usize
-    ensures { result ≡ cond (pieceWithin n u c) (piecesOf n u) 0 }
+    ensures { result ≡ cond (piece_within n u c) (pieces_of n u) 0 }
 {
     if !((n <= MOST_OCTETS) & is_unit(u as u32) & (1 <= c)) {
         return 0;
@@ -76,7 +76,7 @@ fn counted(n: usize, u: u16, c: u8) -> usize
 }
 
 fn given_within(g: Given) -> bool
-    ensures { result ≡ givenWithin g }
+    ensures { result ≡ given_within g }
 {
     let field = g.field;
     let node = g.node;
@@ -91,8 +91,8 @@ fn given_within(g: Given) -> bool
 
 // What the header says of piece c of t.
 fn cut_for(n: usize, u: u16, c: u8, t: usize) -> Cut
-    requires { (pieceWithin n u c ≡ true) × (t ≡ piecesOf n u) }
-    ensures { result ≡ cutFor n u c }
+    requires { (piece_within n u c ≡ true) × (t ≡ pieces_of n u) }
+    ensures { result ≡ cut_for n u c }
 {
     let own = length_among(n, u, c, t);
     Cut {
@@ -105,7 +105,7 @@ fn cut_for(n: usize, u: u16, c: u8, t: usize) -> Cut
 
 // The header, then the piece behind it.
 fn write_pdu(given: Given, message: &[u8], u: u16, piece: u8, cut: Cut, buffer: &mut [u8])
-    requires { (cuts given message.now u piece (length buffer.old) ≡ true) × (cut ≡ cutFor (length message.now) u piece) }
+    requires { (cuts given message.now u piece (length buffer.old) ≡ true) × (cut ≡ cut_for (length message.now) u piece) }
     ensures { buffer.new ≡ laid buffer.old 0 (pdu given message.now u piece) }
 {
     let start = piece_place(u, piece);

@@ -1,6 +1,6 @@
 // How many pieces a message of n octets has at u octets a piece, and the length and place of each.
 ghost use Rattle.std.specs.Prelude.{◌≡◌, cond, ◌-◌, ltb};
-ghost use Rattle.cut.specs.Pieces.{pieces as piecesOf, pieceLength, piecePlace};
+ghost use Rattle.cut.specs.Pieces.{pieces as pieces_of, piece_length, piece_place};
 
 // The most octets of a message.
 pub const MOST_OCTETS: usize = 16_384;
@@ -12,7 +12,7 @@ pub const MOST_UNIT: u32 = 1_396;
 
 // One piece where n is at most u, otherwise n / u rounded up. No message has pieces of 0 octets.
 pub fn pieces(n: usize, u: u16) -> usize
-    ensures { result ≡ piecesOf n u }
+    ensures { result ≡ pieces_of n u }
 {
     let unit = u as usize;
     if n <= unit {
@@ -26,7 +26,7 @@ pub fn pieces(n: usize, u: u16) -> usize
 
 // Where piece c starts in the message.
 pub fn piece_place(u: u16, c: u8) -> usize
-    ensures { result ≡ piecePlace u c }
+    ensures { result ≡ piece_place u c }
 {
     if c == 0 {
         return 0;
@@ -36,14 +36,14 @@ pub fn piece_place(u: u16, c: u8) -> usize
 
 // All pieces but the last carry u octets, the last carries the rest.
 pub fn piece_length(n: usize, u: u16, c: u8) -> usize
-    ensures { result ≡ pieceLength n u c }
+    ensures { result ≡ piece_length n u c }
 {
     length_among(n, u, c, pieces(n, u))
 }
 
 // The same of a message that has t pieces, so that whoever needs their number too counts them once.
 pub fn length_among(n: usize, u: u16, c: u8, t: usize) -> usize
-    ensures { result ≡ cond (ltb c t) u (n - piecePlace u c) }
+    ensures { result ≡ cond (ltb c t) u (n - piece_place u c) }
 {
     if (c as usize) < t {
         return u as usize;

@@ -1,6 +1,6 @@
 // Whether a PDU's cut is possible, and what it says of the piece: by ML, BSIZE, CBN and TBN alone.
 ghost use Rattle.std.specs.Prelude.{◌≡◌, cond, ◌-◌, ◌/◌, ◌≤◌, eqb, ltb};
-ghost use Rattle.cut.specs.Possible.{messageLength, ownLength, unit as unit_of, ownPlace, sizesWithin, is_unit, severalPossible, frontPossible, lastPossible, possible as isPossible};
+ghost use Rattle.cut.specs.Possible.{message_length, own_length, unit as unit_of, own_place, sizes_within, is_unit, several_possible, front_possible, last_possible, possible as is_possible};
 
 use crate::pieces::{LEAST_UNIT, MOST_OCTETS, MOST_UNIT};
 use header::{Cut, SIZE};
@@ -11,14 +11,14 @@ const MOST: u32 = MOST_OCTETS as u32;
 
 // n, the message's length.
 pub fn message_length(c: Cut) -> u32
-    ensures { result ≡ messageLength c }
+    ensures { result ≡ message_length c }
 {
     less(c.ml, HEADER)
 }
 
 // p, the piece's own length.
 pub fn own_length(c: Cut) -> u32
-    ensures { result ≡ ownLength c }
+    ensures { result ≡ own_length c }
 {
     less(c.bsize as u32, HEADER)
 }
@@ -45,7 +45,7 @@ pub fn unit(c: Cut) -> u32
 
 // u by the last piece: what stands before it, shared out among the others.
 fn last_unit(c: Cut) -> u32
-    ensures { result ≡ (messageLength c - ownLength c) / (c.tbn - 1) }
+    ensures { result ≡ (message_length c - own_length c) / (c.tbn - 1) }
 {
     if c.tbn <= 1 {
         return 0;
@@ -55,7 +55,7 @@ fn last_unit(c: Cut) -> u32
 
 // Where the piece starts in the message.
 pub fn own_place(c: Cut) -> u64
-    ensures { result ≡ ownPlace c }
+    ensures { result ≡ own_place c }
 {
     if c.cbn == 0 {
         return 0;
@@ -64,7 +64,7 @@ pub fn own_place(c: Cut) -> u64
 }
 
 pub fn possible(c: Cut) -> bool
-    ensures { result ≡ isPossible c }
+    ensures { result ≡ is_possible c }
 {
     if !sizes_within(c) {
         return false;
@@ -80,7 +80,7 @@ pub fn possible(c: Cut) -> bool
 
 // Neither n nor p is negative, and n is at most 16,384.
 fn sizes_within(c: Cut) -> bool
-    ensures { result ≡ sizesWithin c }
+    ensures { result ≡ sizes_within c }
 {
     if c.ml < HEADER {
         return false;
@@ -94,7 +94,7 @@ fn sizes_within(c: Cut) -> bool
 // Whether piece c of t, from 1, can have p octets of a message's n.
 fn piece_possible(n: u32, p: u32, c: u8, t: u8) -> bool
     requires { (1 ≤ c) × (c ≤ t) }
-    ensures { result ≡ cond (eqb t 1) (eqb p n) (cond (ltb c t) (frontPossible n t p) (lastPossible n t p ((n - p) / (t - 1)))) }
+    ensures { result ≡ cond (eqb t 1) (eqb p n) (cond (ltb c t) (front_possible n t p) (last_possible n t p ((n - p) / (t - 1)))) }
 {
     if t == 1 {
         return p == n;
@@ -108,7 +108,7 @@ fn piece_possible(n: u32, p: u32, c: u8, t: u8) -> bool
 
 // Whether a message of n octets can be cut into t pieces of u, t more than one.
 pub fn several(n: u32, t: u8, u: u32) -> bool
-    ensures { result ≡ severalPossible n t u }
+    ensures { result ≡ several_possible n t u }
 {
     if t <= 1 {
         return false;
@@ -129,7 +129,7 @@ pub fn is_unit(u: u32) -> bool
 // A piece before the last. What stands before the last piece is multiplied once.
 fn front_possible(n: u32, t: u8, u: u32) -> bool
     requires { 1 ≤ t }
-    ensures { result ≡ frontPossible n t u }
+    ensures { result ≡ front_possible n t u }
 {
     if !is_unit(u) {
         return false;
@@ -144,7 +144,7 @@ fn front_possible(n: u32, t: u8, u: u32) -> bool
 // The last piece of several: what stands before it is divided once.
 fn last_possible(n: u32, t: u8, p: u32) -> bool
     requires { 2 ≤ t }
-    ensures { result ≡ lastPossible n t p ((n - p) / (t - 1)) }
+    ensures { result ≡ last_possible n t p ((n - p) / (t - 1)) }
 {
     if n <= p {
         return false;

@@ -3,8 +3,8 @@
 // Every public function is total: contents may be any octets, a number past their end is 0, and the values may be any.
 ghost use Rattle.std.specs.Prelude.{◌≡◌, ◌%◌, drop};
 ghost use Rattle.octets.specs.Number.{number};
-ghost use Rattle.state.specs.State.{sendersMost};
-ghost use Rattle.edges_fields.specs.Fields.{addressIn, groupsIn, withSettings, messageIn, senderIn, damagedSender};
+ghost use Rattle.state.specs.State.{senders_most};
+ghost use Rattle.edges_fields.specs.Fields.{address_in, groups_in, with_settings, message_in, sender_in, damaged_sender};
 
 use groups::{Group, Groups};
 use header::codes::{DataField, Node};
@@ -14,7 +14,7 @@ use state::{Address, Heard, Last, Message, Receiver, Sender};
 
 // The address from a place on.
 pub fn address_in(contents: &[u8], at: usize) -> Address
-    ensures { result ≡ addressIn (drop at contents.now) }
+    ensures { result ≡ address_in (drop at contents.now) }
 {
     let here = from(contents, at);
     Address {
@@ -25,7 +25,7 @@ pub fn address_in(contents: &[u8], at: usize) -> Address
 
 // How many groups there are, and all eight places, from a place on.
 pub fn groups_in(contents: &[u8], at: usize) -> Groups
-    ensures { result ≡ groupsIn (drop at contents.now) }
+    ensures { result ≡ groups_in (drop at contents.now) }
 {
     let here = from(contents, at);
     Groups {
@@ -46,7 +46,7 @@ pub fn groups_in(contents: &[u8], at: usize) -> Groups
 // ---- damage: values of a state become those of a field
 
 pub fn with_settings(mut w: Receiver, contents: &[u8]) -> Receiver
-    ensures { result ≡ withSettings w contents.now }
+    ensures { result ≡ with_settings w contents.now }
 {
     w.test = read1(contents, 0) == 1;
     w.n1 = read2(contents, 1);
@@ -59,7 +59,7 @@ pub fn with_settings(mut w: Receiver, contents: &[u8]) -> Receiver
 }
 
 pub fn with_sender(mut w: Receiver, contents: &[u8]) -> Receiver
-    ensures { result ≡ damagedSender w contents.now }
+    ensures { result ≡ damaged_sender w contents.now }
 {
     let at = place_in(contents);
     let s = sender_in(contents);
@@ -68,13 +68,13 @@ pub fn with_sender(mut w: Receiver, contents: &[u8]) -> Receiver
 }
 
 fn place_in(contents: &[u8]) -> usize
-    ensures { result ≡ number 1 contents.now 0 % sendersMost }
+    ensures { result ≡ number 1 contents.now 0 % senders_most }
 {
     read1(contents, 0) as usize % Receiver::PLACES
 }
 
 fn sender_in(contents: &[u8]) -> Sender
-    ensures { result ≡ senderIn contents.now }
+    ensures { result ≡ sender_in contents.now }
 {
     let source = address_in(contents, 1);
     let last = Last {
@@ -97,7 +97,7 @@ fn sender_in(contents: &[u8]) -> Sender
 }
 
 fn message_in(contents: &[u8]) -> Message
-    ensures { result ≡ messageIn contents.now }
+    ensures { result ≡ message_in contents.now }
 {
     Message {
         version: Version(read4(contents, 13)),

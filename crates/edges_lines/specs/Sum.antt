@@ -3,19 +3,19 @@ use Rattle.std.specs.Prelude.{ℕ, ◌+◌, ◌*◌, ◌%◌, List, [], ◌∷�
 use Rattle.octets.specs.Number.{octets}
 
 -- "s = (31 × s + octet) mod 2^32"
-unfoldable pub withOctet : ℕ → ℕ → ℕ
-withOctet s octet = (31 * s + octet) % 4294967296
+unfoldable pub with_octet : ℕ → ℕ → ℕ
+with_octet s octet = (31 * s + octet) % 4294967296
 
 -- "for each octet in order"
-unfoldable pub sumFrom : ℕ → List ℕ → ℕ
-sumFrom s [] = s
-sumFrom s (octet ∷ octets) = sumFrom (withOctet s octet) octets
+unfoldable pub sum_from : ℕ → List ℕ → ℕ
+sum_from s [] = s
+sum_from s (octet ∷ octets) = sum_from (with_octet s octet) octets
 
 -- "s = 7"
 abbrev pub sum_of : List ℕ → ℕ
-sum_of octets = sumFrom 7 octets
+sum_of octets = sum_from 7 octets
 
 -- "each entry as four octets, high octet first"
-unfoldable pub inOctets : List ℕ → List ℕ
-inOctets [] = []
-inOctets (x ∷ xs) = octets 4 x ++ inOctets xs
+unfoldable pub in_octets : List ℕ → List ℕ
+in_octets [] = []
+in_octets (x ∷ xs) = octets 4 x ++ in_octets xs

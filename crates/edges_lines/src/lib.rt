@@ -3,7 +3,7 @@
 // No contract can say what is written, so a function that only prints has none: it answers nothing, and nothing is lent
 // to it to write.
 ghost use Rattle.std.specs.Prelude.{◌%◌, ◌<◌, ◌≡◌};
-ghost use Rattle.edges_lines.specs.Sum.{withOctet, sumFrom, sum_of, inOctets};
+ghost use Rattle.edges_lines.specs.Sum.{with_octet, sum_from, sum_of, in_octets};
 
 pub mod calls;
 pub mod record;
@@ -78,7 +78,7 @@ pub fn sum(octets: &[u8]) -> u64
 
 // "each entry as four octets, high octet first"
 pub fn sum_of_numbers(numbers: &[u32]) -> u64
-    ensures { result ≡ sum_of (inOctets numbers.now) }
+    ensures { result ≡ sum_of (in_octets numbers.now) }
 {
     let mut s = 7;
     let mut i = 0;
@@ -94,7 +94,7 @@ pub fn sum_of_numbers(numbers: &[u32]) -> u64
 // The sum that goes on from another.
 fn sum_from(start: u64, octets: &[u8]) -> u64
     requires { start < 4294967296 }
-    ensures { result ≡ sumFrom start octets.now }
+    ensures { result ≡ sum_from start octets.now }
 {
     let mut s = start;
     let mut i = 0;
@@ -107,7 +107,7 @@ fn sum_from(start: u64, octets: &[u8]) -> u64
 
 // A sum is below 2^32, so the first remainder alters nothing; it keeps the product within 64 bits.
 fn with_octet(s: u64, octet: u8) -> u64
-    ensures { result ≡ withOctet (s % 4294967296) octet }
+    ensures { result ≡ with_octet (s % 4294967296) octet }
 {
     (31 * (s % 4_294_967_296) + octet as u64) % 4_294_967_296
 }

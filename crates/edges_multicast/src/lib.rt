@@ -4,7 +4,7 @@
 // No contract can say what is printed; what a field leaves of the tables is said in `Fields`.
 ghost use Rattle.std.specs.Prelude.{◌≡◌, length};
 ghost use Rattle.multicast.specs.Lent.{tables};
-ghost use Rattle.edges_multicast.specs.Fields.{lentCast, castIn, damagedBy, tablesBy};
+ghost use Rattle.edges_multicast.specs.Fields.{lent_cast, cast_in, damaged_by, tables_by};
 
 use answers::GroupAnswer;
 use edges_lines::calls::multicast_line;
@@ -29,8 +29,8 @@ pub fn table_call(
     tag: u8,
     contents: &[u8],
 )
-    ensures versions { versions.new ≡ (tablesBy w (tables versions.old numbers.old) tag contents.now).versions }
-    ensures numbers { numbers.new ≡ (tablesBy w (tables versions.old numbers.old) tag contents.now).numbers }
+    ensures versions { versions.new ≡ (tables_by w (tables versions.old numbers.old) tag contents.now).versions }
+    ensures numbers { numbers.new ≡ (tables_by w (tables versions.old numbers.old) tag contents.now).numbers }
 {
     match tag {
         b'S' | b's' => {
@@ -49,8 +49,8 @@ pub fn table_call(
 // As many entries are lent as the field says; those behind them stay.
 fn multicast_call(w: Receiver, versions: &mut [u32], numbers: &mut [u32], tag: u8, contents: &[u8])
     requires { (length versions.old ≡ 1040) × (length numbers.old ≡ 1040) }
-    ensures versions { versions.new ≡ (castIn w (tables versions.old numbers.old) contents.now).versions }
-    ensures numbers { numbers.new ≡ (castIn w (tables versions.old numbers.old) contents.now).numbers }
+    ensures versions { versions.new ≡ (cast_in w (tables versions.old numbers.old) contents.now).versions }
+    ensures numbers { numbers.new ≡ (cast_in w (tables versions.old numbers.old) contents.now).numbers }
 {
     let of_versions = read2(contents, 0) as usize % (ENTRIES + 1);
     let of_numbers = read2(contents, 2) as usize % (ENTRIES + 1);
@@ -64,8 +64,8 @@ fn multicast_call(w: Receiver, versions: &mut [u32], numbers: &mut [u32], tag: u
 }
 
 fn lent_call(w: Receiver, versions: &mut [u32], numbers: &mut [u32], tag: u8, contents: &[u8])
-    ensures versions { versions.new ≡ (lentCast w (tables versions.old numbers.old) contents.now).versions }
-    ensures numbers { numbers.new ≡ (lentCast w (tables versions.old numbers.old) contents.now).numbers }
+    ensures versions { versions.new ≡ (lent_cast w (tables versions.old numbers.old) contents.now).versions }
+    ensures numbers { numbers.new ≡ (lent_cast w (tables versions.old numbers.old) contents.now).numbers }
 {
     let packet = from(contents, PDU);
     let a = multicast(w, versions, numbers, Group(read1(contents, 4)), packet);
@@ -89,8 +89,8 @@ fn cast_line(tag: u8, a: GroupAnswer, versions: &[u32], numbers: &[u32], packet:
 // ---- damage
 
 fn damage(versions: &mut [u32; ENTRIES], numbers: &mut [u32; ENTRIES], contents: &[u8])
-    ensures versions { versions.new ≡ (damagedBy (tables versions.old numbers.old) contents.now).versions }
-    ensures numbers { numbers.new ≡ (damagedBy (tables versions.old numbers.old) contents.now).numbers }
+    ensures versions { versions.new ≡ (damaged_by (tables versions.old numbers.old) contents.now).versions }
+    ensures numbers { numbers.new ≡ (damaged_by (tables versions.old numbers.old) contents.now).numbers }
 {
     let place = read2(contents, 0) as usize % ENTRIES;
     versions[place] = read4(contents, 2);

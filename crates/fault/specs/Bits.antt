@@ -12,11 +12,11 @@ unpacked [] = []
 unpacked (o ∷ octets) = low_bits 8 o ++ unpacked octets
 
 -- Of so many modules, whether each is dead.
-abbrev pub deadIn : ℕ → List ℕ → List Bool
-deadIn modules octets = take modules (unpacked octets)
+abbrev pub dead_in : ℕ → List ℕ → List Bool
+dead_in modules octets = take modules (unpacked octets)
 
 -- "bits above the count … must be 0": an octet has no bit behind those of the first modules, which are the first eight,
 -- and the next octet none behind those that are left.
-unfoldable pub noneAbove : ℕ → List ℕ → Bool
-noneAbove modules [] = true
-noneAbove modules (o ∷ octets) = eqb (o / 2 ^ modules) 0 && noneAbove (modules - 8) octets
+unfoldable pub none_above : ℕ → List ℕ → Bool
+none_above modules [] = true
+none_above modules (o ∷ octets) = eqb (o / 2 ^ modules) 0 && none_above (modules - 8) octets

@@ -3,12 +3,12 @@ use Rattle.std.specs.Prelude.{ℕ, ◌≡◌, refl, Bool, true, false, not, cond
 use Rattle.octets.specs.Number.{number, octets}
 use Rattle.octets.specs.Run.{run}
 use Rattle.map.specs.Map.{bit}
-use Rattle.fault.specs.Section.{Section, bitsSize, lowestFirst, packed, numbersOf, pairsOf, octetsOf, areErrors, isWithin}
-use Rattle.fault.specs.Bits.{noneAbove}
-use Rattle.fault.specs.Places.{errorsFrom}
-use Rattle.fault.specs.SectionLaws.{decide, section?}
-use Rattle.fault.specs.Reading.{isSection, reportOf, reading_of, deadAt, errorAt}
-use Rattle.fault.specs.Writing.{errorsGiven, keepsRules, writingOf, writingTold}
+use Rattle.fault.specs.Section.{Section, bits_size, lowest_first, packed, numbers_of, pairs_of, octets_of, are_errors, is_within}
+use Rattle.fault.specs.Bits.{none_above}
+use Rattle.fault.specs.Places.{errors_from}
+use Rattle.fault.specs.SectionLaws.{decide, maybe_section}
+use Rattle.fault.specs.Reading.{is_section, report_of, reading_of, dead_at, error_at}
+use Rattle.fault.specs.Writing.{errors_given, keeps_rules, writing_of, writing_told}
 use Rattle.fault.specs.private.Judged.{judged}
 
 pub data Edge : Type 0 where
@@ -38,13 +38,13 @@ same : Bool → Bool → Bool
 same a b = cond a b (not b)
 
 pub met : Edge → Bool
-met (l modules k) = eqb (bitsSize modules) k
-met (fits modules errors options b k) = same (isWithin (plain modules errors options)) b && eqb (length (octetsOf (plain modules errors options))) k
+met (l modules k) = eqb (bits_size modules) k
+met (fits modules errors options b k) = same (is_within (plain modules errors options)) b && eqb (length (octets_of (plain modules errors options))) k
 met (reads s k) = eqb (reading_of s).number k
-met (dead s x b) = same (deadAt s x) b
-met (error s k m n) = eqb (errorAt s k).«module» m && eqb (errorAt s k).error n
+met (dead s x b) = same (dead_at s x) b
+met (error s k m n) = eqb (error_at s k).«module» m && eqb (error_at s k).error n
 met (writes modules bits numbers options room k size) =
-    eqb (writingTold (writingOf modules bits numbers options room)).number k && eqb (writingTold (writingOf modules bits numbers options room)).length size
+    eqb (writing_told (writing_of modules bits numbers options room)).number k && eqb (writing_told (writing_of modules bits numbers options room)).length size
 
 pub all : List Edge → Bool
 all [] = true
@@ -87,8 +87,8 @@ edges =
     -- "an odd number of 16-bit numbers for the errors, and an error with module 0"
     ∷ writes 0 [] (1 ∷ 2 ∷ 3 ∷ []) [] 2000 24 0 ∷ writes 0 [] (1 ∷ 0 ∷ 0 ∷ 5 ∷ []) [] 2000 24 0 ∷ writes 0 [] (1 ∷ 0 ∷ 65535 ∷ 5 ∷ []) [] 2000 0 28 ∷ []
 
-pub every-edge : all edges ≡ true
+pub every_edge : all edges ≡ true
 unfolding
-    all met edges same isSection section? decide judged noneAbove areErrors errorsFrom reportOf reading_of deadAt errorAt number octets run bit
-    lowestFirst packed numbersOf pairsOf octetsOf isWithin errorsGiven keepsRules writingOf
-every-edge = refl {a = true}
+    all met edges same is_section maybe_section decide judged none_above are_errors errors_from report_of reading_of dead_at error_at number octets run bit
+    lowest_first packed numbers_of pairs_of octets_of is_within errors_given keeps_rules writing_of
+every_edge = refl {a = true}

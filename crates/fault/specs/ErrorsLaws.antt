@@ -4,31 +4,31 @@ use Rattle.std.proofs.Common.{sym, ap, ◌∙◌, append_assoc, add-zero, arith,
 use Rattle.std.proofs.Math.Pow.{are_bytes}
 use Rattle.std.proofs.lemmas.Bool.{eqb-false}
 use Rattle.octets.specs.Number.{octet, number, octets}
-use Rattle.octets.specs.NumberLaws.{Octets, length-octets, number-one, number-zero, number-drop, number-front, number_bound, octets-run, octets-small, bytes-append}
+use Rattle.octets.specs.NumberLaws.{Octets, length_octets, number_one, number_zero, number_drop, number_front, number_bound, octets_run, octets_small, bytes_append}
 use Rattle.octets.specs.Split.{both, and_left, and_right, same_test}
 use Rattle.fault.specs.declared.Error.{Error}
-use Rattle.fault.specs.Section.{numbersOf, pairsOf, isError, areErrors}
-use Rattle.fault.specs.Places.{errorsFrom}
+use Rattle.fault.specs.Section.{numbers_of, pairs_of, is_error, are_errors}
+use Rattle.fault.specs.Places.{errors_from}
 
-pub length_pairs : (l : List ℕ) → length (pairsOf l) ≡ 2 * length l
-unfolding pairsOf
+pub length_pairs : (l : List ℕ) → length (pairs_of l) ≡ 2 * length l
+unfolding pairs_of
 length_pairs [] = refl
-length_pairs (x ∷ l) = rw (length-append (octets 2 x) (pairsOf l), length-octets 2 x, length_pairs l) (omega arith)
+length_pairs (x ∷ l) = rw (length-append (octets 2 x) (pairs_of l), length_octets 2 x, length_pairs l) (omega arith)
 
-pub length-numbers : (es : List Error) → length (numbersOf es) ≡ 2 * length es
-unfolding numbersOf
-length-numbers [] = refl
-length-numbers (e ∷ es) = omega (arith, length-numbers es)
+pub length_numbers : (es : List Error) → length (numbers_of es) ≡ 2 * length es
+unfolding numbers_of
+length_numbers [] = refl
+length_numbers (e ∷ es) = omega (arith, length_numbers es)
 
-pub pairs_small : (l : List ℕ) → are_bytes (pairsOf l) ≡ true
-unfolding pairsOf
+pub pairs_small : (l : List ℕ) → are_bytes (pairs_of l) ≡ true
+unfolding pairs_of
 pairs_small [] = refl
-pairs_small (x ∷ l) = bytes-append (octets 2 x) (pairsOf l) (octets-small 2 x) (pairs_small l)
+pairs_small (x ∷ l) = bytes_append (octets 2 x) (pairs_of l) (octets_small 2 x) (pairs_small l)
 
-pub length-errors : (n : ℕ) (s : List ℕ) → length (errorsFrom n s) ≡ n
-unfolding errorsFrom
-length-errors zero s = refl
-length-errors (suc n) s = ap suc (length-errors n (drop 4 s))
+pub length_errors : (n : ℕ) (s : List ℕ) → length (errors_from n s) ≡ n
+unfolding errors_from
+length_errors zero s = refl
+length_errors (suc n) s = ap suc (length_errors n (drop 4 s))
 
 -- ---- one error
 
@@ -37,16 +37,16 @@ module _ (a b : ℕ) (t : List ℕ) (a-fits : a < 65536) (b-fits : b < 65536) wh
   abbrev pair : List ℕ
   pair = octets 2 a ++ (octets 2 b ++ t)
 
-  pair-first : number 2 pair 0 ≡ a
-  pair-first = number-front 2 a (octets 2 b ++ t) a-fits
+  pair_first : number 2 pair 0 ≡ a
+  pair_first = number_front 2 a (octets 2 b ++ t) a-fits
 
-  pair-second : number 2 pair 2 ≡ b
-  pair-second = sym (number-drop 2 2 pair 0) ∙ ap (λ (l : List ℕ). number 2 l 0) (drop_at (octets 2 a) (octets 2 b ++ t) 2 (length-octets 2 a)) ∙ number-front 2 b t b-fits
+  pair_second : number 2 pair 2 ≡ b
+  pair_second = sym (number_drop 2 2 pair 0) ∙ ap (λ (l : List ℕ). number 2 l 0) (drop_at (octets 2 a) (octets 2 b ++ t) 2 (length_octets 2 a)) ∙ number_front 2 b t b-fits
 
-  pair-behind : drop 4 pair ≡ t
-  pair-behind =
-      sym (drop-drop 2 2 pair) ∙ ap (drop 2) (drop_at (octets 2 a) (octets 2 b ++ t) 2 (length-octets 2 a))
-      ∙ drop_at (octets 2 b) t 2 (length-octets 2 b)
+  pair_behind : drop 4 pair ≡ t
+  pair_behind =
+      sym (drop-drop 2 2 pair) ∙ ap (drop 2) (drop_at (octets 2 a) (octets 2 b ++ t) 2 (length_octets 2 a))
+      ∙ drop_at (octets 2 b) t 2 (length_octets 2 b)
 
 -- ---- all of them
 
@@ -56,8 +56,8 @@ record Fits (e : Error) : Type 0 where
   number : e.«module» < 65536
   error : e.error < 65536
 
-error-fits : (e : Error) → isError e ≡ true → Fits e
-error-fits e is =
+error_fits : (e : Error) → is_error e ≡ true → Fits e
+error_fits e is =
     let a = leb 1 e.«module» in
     let b = leb e.«module» 65535 in
     let c = leb e.error 65535 in
@@ -66,50 +66,50 @@ error-fits e is =
     let last = leb-true e.error 65535 (and_right (a && b) c is) in
     record { from = leb-true 1 e.«module» (and_left a b ab); number = omega arith; error = omega arith }
 
-error-is : (e : Error) → 1 ≤ e.«module» → e.«module» < 65536 → e.error < 65536 → isError e ≡ true
-error-is e from number error =
+error_is : (e : Error) → 1 ≤ e.«module» → e.«module» < 65536 → e.error < 65536 → is_error e ≡ true
+error_is e from number error =
     both (leb 1 e.«module» && leb e.«module» 65535) (leb e.error 65535)
     (both (leb 1 e.«module») (leb e.«module» 65535) (le-leb 1 e.«module» from) (le-leb e.«module» 65535 (omega arith)))
     (le-leb e.error 65535 (omega arith))
 
 -- Of two 16-bit numbers only that the module is not 0 is left to be asked.
-pub error-asks : (e : Error) → e.«module» < 65536 → e.error < 65536 → isError e ≡ leb 1 e.«module»
-error-asks e number error = same_test (isError e) (leb 1 e.«module»)
-    (λ is. le-leb 1 e.«module» (error-fits e is).from)
-    (λ is. error-is e (leb-true 1 e.«module» is) number error)
+pub error_asks : (e : Error) → e.«module» < 65536 → e.error < 65536 → is_error e ≡ leb 1 e.«module»
+error_asks e number error = same_test (is_error e) (leb 1 e.«module»)
+    (λ is. le-leb 1 e.«module» (error_fits e is).from)
+    (λ is. error_is e (leb-true 1 e.«module» is) number error)
 
 -- What was written is read, whatever stands behind it,
-pub errors-back : (es : List Error) (t : List ℕ) → areErrors es ≡ true → errorsFrom (length es) (pairsOf (numbersOf es) ++ t) ≡ es
-unfolding errorsFrom pairsOf numbersOf areErrors
-errors-back [] t are = refl
-errors-back (e ∷ es) t are =
-    let f = error-fits e (and_left (isError e) (areErrors es) are) in
-    let rest = pairsOf (numbersOf es) ++ t in
-    let side : octets 2 e.«module» ++ (octets 2 e.error ++ pairsOf (numbersOf es)) ++ t ≡ octets 2 e.«module» ++ (octets 2 e.error ++ rest)
-    = append_assoc (octets 2 e.«module») (octets 2 e.error ++ pairsOf (numbersOf es)) t ∙ ap (λ (l : List ℕ). octets 2 e.«module» ++ l) (append_assoc (octets 2 e.error) (pairsOf (numbersOf es)) t) in
+pub errors_back : (es : List Error) (t : List ℕ) → are_errors es ≡ true → errors_from (length es) (pairs_of (numbers_of es) ++ t) ≡ es
+unfolding errors_from pairs_of numbers_of are_errors
+errors_back [] t are = refl
+errors_back (e ∷ es) t are =
+    let f = error_fits e (and_left (is_error e) (are_errors es) are) in
+    let rest = pairs_of (numbers_of es) ++ t in
+    let side : octets 2 e.«module» ++ (octets 2 e.error ++ pairs_of (numbers_of es)) ++ t ≡ octets 2 e.«module» ++ (octets 2 e.error ++ rest)
+    = append_assoc (octets 2 e.«module») (octets 2 e.error ++ pairs_of (numbers_of es)) t ∙ ap (λ (l : List ℕ). octets 2 e.«module» ++ l) (append_assoc (octets 2 e.error) (pairs_of (numbers_of es)) t) in
     rw (
       side,
-      pair-first e.«module» e.error rest f.number f.error,
-      pair-second e.«module» e.error rest f.number f.error,
-      pair-behind e.«module» e.error rest f.number f.error,
-    ) (ap (λ (l : List Error). e ∷ l) (errors-back es t (and_right (isError e) (areErrors es) are)))
+      pair_first e.«module» e.error rest f.number f.error,
+      pair_second e.«module» e.error rest f.number f.error,
+      pair_behind e.«module» e.error rest f.number f.error,
+    ) (ap (λ (l : List Error). e ∷ l) (errors_back es t (and_right (is_error e) (are_errors es) are)))
 
-octets-drop : (n : ℕ) (s : List ℕ) → Octets s → Octets (drop n s)
-octets-drop n s o = record { small = λ i. rw (get_or-drop n s i 0) (o.small (n + i)) }
+octets_drop : (n : ℕ) (s : List ℕ) → Octets s → Octets (drop n s)
+octets_drop n s o = record { small = λ i. rw (get_or-drop n s i 0) (o.small (n + i)) }
 
 -- and what is read is written to the same octets.
-pub errors-same : (n : ℕ) (s : List ℕ) → Octets s → 4 * n ≤ length s → pairsOf (numbersOf (errorsFrom n s)) ≡ take (4 * n) s
-unfolding errorsFrom pairsOf numbersOf
-errors-same zero s o room = refl
-errors-same (suc n) s o room =
-    let second : number 2 s 2 ≡ number 2 (drop 2 s) 0 = sym (number-drop 2 2 s 0) in
+pub errors_same : (n : ℕ) (s : List ℕ) → Octets s → 4 * n ≤ length s → pairs_of (numbers_of (errors_from n s)) ≡ take (4 * n) s
+unfolding errors_from pairs_of numbers_of
+errors_same zero s o room = refl
+errors_same (suc n) s o room =
+    let second : number 2 s 2 ≡ number 2 (drop 2 s) 0 = sym (number_drop 2 2 s 0) in
     let long : length (drop 4 s) ≡ length s - 4 = length-drop 4 s in
     let four : 4 * suc n ≡ 2 + (2 + 4 * n) = omega arith in
     rw (
-      octets-run 2 s o (omega arith),
+      octets_run 2 s o (omega arith),
       second,
-      octets-run 2 (drop 2 s) (octets-drop 2 s o) (rw (length-drop 2 s) (omega arith)),
-      errors-same n (drop 4 s) (octets-drop 4 s o) (omega (arith, long)),
+      octets_run 2 (drop 2 s) (octets_drop 2 s o) (rw (length-drop 2 s) (omega arith)),
+      errors_same n (drop 4 s) (octets_drop 4 s o) (omega (arith, long)),
       four,
       take-add 2 (2 + 4 * n) s,
       take-add 2 (4 * n) (drop 2 s),
@@ -117,49 +117,49 @@ errors-same (suc n) s o room =
     )
 
 -- Error k of those that are read.
-pub errors-at : (n : ℕ) (s : List ℕ) (k : ℕ) (z : Error) → k < n
-    → get_or (errorsFrom n s) k z ≡ record { «module» = number 2 s (4 * k); error = number 2 s (4 * k + 2) }
-unfolding errorsFrom
-errors-at zero s k z h = absurd (omega arith)
-errors-at (suc n) s zero z h = refl
-errors-at (suc n) s (suc k) z h =
+pub errors_at : (n : ℕ) (s : List ℕ) (k : ℕ) (z : Error) → k < n
+    → get_or (errors_from n s) k z ≡ record { «module» = number 2 s (4 * k); error = number 2 s (4 * k + 2) }
+unfolding errors_from
+errors_at zero s k z h = absurd (omega arith)
+errors_at (suc n) s zero z h = refl
+errors_at (suc n) s (suc k) z h =
     let a : 4 + 4 * k ≡ 4 * suc k = omega arith in
     let b : 4 + (4 * k + 2) ≡ 4 * suc k + 2 = omega arith in
-    errors-at n (drop 4 s) k z (omega arith) ∙ rw (number-drop 2 4 s (4 * k), number-drop 2 4 s (4 * k + 2), a, b)
+    errors_at n (drop 4 s) k z (omega arith) ∙ rw (number_drop 2 4 s (4 * k), number_drop 2 4 s (4 * k + 2), a, b)
 
 -- The numbers that are read have two octets each.
-errors-are : (n : ℕ) (s : List ℕ) → Octets s → areErrors (errorsFrom (suc n) s) ≡ leb 1 (number 2 s 0) && areErrors (errorsFrom n (drop 4 s))
-unfolding errorsFrom areErrors
-errors-are n s o =
-    ap (λ (b : Bool). b && areErrors (errorsFrom n (drop 4 s)))
-    (error-asks (record { «module» = number 2 s 0; error = number 2 s 2 }) (number_bound 2 s 0 o) (number_bound 2 s 2 o))
+errors_are : (n : ℕ) (s : List ℕ) → Octets s → are_errors (errors_from (suc n) s) ≡ leb 1 (number 2 s 0) && are_errors (errors_from n (drop 4 s))
+unfolding errors_from are_errors
+errors_are n s o =
+    ap (λ (b : Bool). b && are_errors (errors_from n (drop 4 s)))
+    (error_asks (record { «module» = number 2 s 0; error = number 2 s 2 }) (number_bound 2 s 0 o) (number_bound 2 s 2 o))
 
-errors-step : (n at : ℕ) (s : List ℕ) → Octets s → 0 < n
-    → areErrors (errorsFrom n (drop at s)) ≡ leb 1 (number 2 s at) && areErrors (errorsFrom (n - 1) (drop (at + 4) s))
-errors-step n at s o some =
+errors_step : (n at : ℕ) (s : List ℕ) → Octets s → 0 < n
+    → are_errors (errors_from n (drop at s)) ≡ leb 1 (number 2 s at) && are_errors (errors_from (n - 1) (drop (at + 4) s))
+errors_step n at s o some =
     let k : n ≡ suc (n - 1) = omega arith in
-    ap (λ (i : ℕ). areErrors (errorsFrom i (drop at s))) k ∙ errors-are (n - 1) (drop at s) (octets-drop at s o)
-    ∙ rw (number-drop 2 at s 0, add-zero at, drop-drop 4 at s)
+    ap (λ (i : ℕ). are_errors (errors_from i (drop at s))) k ∙ errors_are (n - 1) (drop at s) (octets_drop at s o)
+    ∙ rw (number_drop 2 at s 0, add-zero at, drop-drop 4 at s)
 
 -- By the two octets of the module's number.
-module-zero : (s : List ℕ) (at : ℕ) → eqb (octet s at) 0 && eqb (octet s (at + 1)) 0 ≡ eqb (number 2 s at) 0
-module-zero s at = rw (← number-one s at, ← number-one s (at + 1)) (number-zero 1 1 s at)
+module_zero : (s : List ℕ) (at : ℕ) → eqb (octet s at) 0 && eqb (octet s (at + 1)) 0 ≡ eqb (number 2 s at) 0
+module_zero s at = rw (← number_one s at, ← number_one s (at + 1)) (number_zero 1 1 s at)
 
-pub errors-none : (n at : ℕ) (s : List ℕ) → Octets s → 0 < n → eqb (octet s at) 0 && eqb (octet s (at + 1)) 0 ≡ true
-    → areErrors (errorsFrom n (drop at s)) ≡ false
-errors-none n at s o some e =
-    errors-step n at s o some ∙ rw (eqb-true (number 2 s at) 0 (sym (module-zero s at) ∙ e))
+pub errors_none : (n at : ℕ) (s : List ℕ) → Octets s → 0 < n → eqb (octet s at) 0 && eqb (octet s (at + 1)) 0 ≡ true
+    → are_errors (errors_from n (drop at s)) ≡ false
+errors_none n at s o some e =
+    errors_step n at s o some ∙ rw (eqb-true (number 2 s at) 0 (sym (module_zero s at) ∙ e))
 
-pub errors-some : (n at : ℕ) (s : List ℕ) → Octets s → 0 < n → eqb (octet s at) 0 && eqb (octet s (at + 1)) 0 ≡ false
-    → areErrors (errorsFrom n (drop at s)) ≡ areErrors (errorsFrom (n - 1) (drop (at + 4) s))
-errors-some n at s o some e =
-    let ne = eqb-false (number 2 s at) 0 (sym (module-zero s at) ∙ e) in
-    errors-step n at s o some ∙ rw (le-leb 1 (number 2 s at) (positive (number 2 s at) ne))
+pub errors_some : (n at : ℕ) (s : List ℕ) → Octets s → 0 < n → eqb (octet s at) 0 && eqb (octet s (at + 1)) 0 ≡ false
+    → are_errors (errors_from n (drop at s)) ≡ are_errors (errors_from (n - 1) (drop (at + 4) s))
+errors_some n at s o some e =
+    let ne = eqb-false (number 2 s at) 0 (sym (module_zero s at) ∙ e) in
+    errors_step n at s o some ∙ rw (le-leb 1 (number 2 s at) (positive (number 2 s at) ne))
   where
     positive : (k : ℕ) → (k ≡ 0 → ⊥) → 1 ≤ k
     positive k ne = omega arith
 
-pub errors-end : (n : ℕ) (s : List ℕ) → n ≤ 0 → areErrors (errorsFrom n s) ≡ true
-errors-end n s none =
+pub errors_end : (n : ℕ) (s : List ℕ) → n ≤ 0 → are_errors (errors_from n s) ≡ true
+errors_end n s none =
     let z : n ≡ 0 = omega arith in
-    rw z (unfold errorsFrom areErrors in refl)
+    rw z (unfold errors_from are_errors in refl)

@@ -4,30 +4,30 @@ use Rattle.std.specs.Prelude.{ℕ, zero, suc, ◌+◌, ◌*◌, List, [], ◌∷
 use Rattle.octets.specs.Number.{number}
 use Rattle.fault.specs.declared.Error.{Error}
 use Rattle.fault.specs.declared.places.Places.{Places}
-use Rattle.fault.specs.Section.{bitsSize}
+use Rattle.fault.specs.Section.{bits_size}
 
-abbrev pub modulesIn : List ℕ → ℕ
-modulesIn s = number 4 s 0
+abbrev pub modules_in : List ℕ → ℕ
+modules_in s = number 4 s 0
 
-abbrev pub errorsIn : List ℕ → ℕ
-errorsIn s = number 4 s (4 + bitsSize (modulesIn s))
+abbrev pub errors_in : List ℕ → ℕ
+errors_in s = number 4 s (4 + bits_size (modules_in s))
 
 -- Where the first error stands.
-abbrev pub listAt : List ℕ → ℕ
-listAt s = 16 + bitsSize (modulesIn s)
+abbrev pub list_at : List ℕ → ℕ
+list_at s = 16 + bits_size (modules_in s)
 
 -- Where the option count stands.
-abbrev pub countAt : List ℕ → ℕ
-countAt s = listAt s + 4 * errorsIn s
+abbrev pub count_at : List ℕ → ℕ
+count_at s = list_at s + 4 * errors_in s
 
-abbrev pub optionsIn : List ℕ → ℕ
-optionsIn s = number 4 s (countAt s)
+abbrev pub options_in : List ℕ → ℕ
+options_in s = number 4 s (count_at s)
 
 -- All counts, and the two places.
-unfoldable pub placesOf : List ℕ → Places
-placesOf s = record { modules = modulesIn s; errors = errorsIn s; options = optionsIn s; list = listAt s; rest = countAt s + 4 }
+unfoldable pub places_of : List ℕ → Places
+places_of s = record { modules = modules_in s; errors = errors_in s; options = options_in s; list = list_at s; rest = count_at s + 4 }
 
 -- So many errors, from the beginning of these octets on.
-unfoldable pub errorsFrom : ℕ → List ℕ → List Error
-errorsFrom zero s = []
-errorsFrom (suc n) s = record { «module» = number 2 s 0; error = number 2 s 2 } ∷ errorsFrom n (drop 4 s)
+unfoldable pub errors_from : ℕ → List ℕ → List Error
+errors_from zero s = []
+errors_from (suc n) s = record { «module» = number 2 s 0; error = number 2 s 2 } ∷ errors_from n (drop 4 s)

@@ -8,18 +8,18 @@ use Rattle.octets.specs.Run.{run}
 use Rattle.map.specs.Map.{bit}
 use Rattle.fault.specs.declared.Error.{Error}
 use Rattle.fault.specs.declared.reading.Report.{Report}
-use Rattle.fault.specs.Section.{Section, bitsSize}
-use Rattle.fault.specs.SectionLaws.{section?}
-use Rattle.fault.specs.Places.{modulesIn, errorsIn, listAt, countAt, optionsIn}
+use Rattle.fault.specs.Section.{Section, bits_size}
+use Rattle.fault.specs.SectionLaws.{maybe_section}
+use Rattle.fault.specs.Places.{modules_in, errors_in, list_at, count_at, options_in}
 
 -- Whether these are the octets of a section within the rules. That this can be told is a law; whoever tells it tells the
 -- same.
-unfoldable pub isSection : List ℕ → Bool
-isSection s = ite (section? s) true false
+unfoldable pub is_section : List ℕ → Bool
+is_section s = ite (maybe_section s) true false
 
 -- "counts and name by value"; 0 says that it was read.
-unfoldable pub reportOf : List ℕ → Report
-reportOf s = record { number = 0; modules = modulesIn s; errors = errorsIn s; options = optionsIn s; name = run (8 + bitsSize (modulesIn s)) 8 s }
+unfoldable pub report_of : List ℕ → Report
+report_of s = record { number = 0; modules = modules_in s; errors = errors_in s; options = options_in s; name = run (8 + bits_size (modules_in s)) 8 s }
 
 -- What a section says so.
 abbrev pub report : Section → Report
@@ -30,21 +30,21 @@ abbrev pub refused : Report
 refused = record { number = 24; modules = 0; errors = 0; options = 0; name = replicate 8 0 }
 
 unfoldable pub reading_of : List ℕ → Report
-reading_of s = cond (isSection s) (reportOf s) refused
+reading_of s = cond (is_section s) (report_of s) refused
 
 -- "Module X has bit (X − 1) mod 8, lowest first, of octet (X − 1) / 8, set when dead"; "A module 0 or above the count is
 -- alive".
-unfoldable pub deadAt : List ℕ → ℕ → Bool
-deadAt s x = leb 1 x && leb x (modulesIn s) && eqb (bit ((x - 1) % 8) (octet s (4 + (x - 1) / 8))) 1
+unfoldable pub dead_at : List ℕ → ℕ → Bool
+dead_at s x = leb 1 x && leb x (modules_in s) && eqb (bit ((x - 1) % 8) (octet s (4 + (x - 1) / 8))) 1
 
 -- "an error past the count is 0, 0"
-abbrev pub noError : Error
-noError = record { «module» = 0; error = 0 }
+abbrev pub no_error : Error
+no_error = record { «module» = 0; error = 0 }
 
 -- The first has the index 0.
-unfoldable pub errorAt : List ℕ → ℕ → Error
-errorAt s k =
-    cond (ltb k (errorsIn s)) (record { «module» = number 2 s (listAt s + 4 * k); error = number 2 s (listAt s + 4 * k + 2) }) noError
+unfoldable pub error_at : List ℕ → ℕ → Error
+error_at s k =
+    cond (ltb k (errors_in s)) (record { «module» = number 2 s (list_at s + 4 * k); error = number 2 s (list_at s + 4 * k + 2) }) no_error
 
-unfoldable pub optionsOf : List ℕ → List ℕ
-optionsOf s = run (countAt s + 4) (optionsIn s) s
+unfoldable pub options_of : List ℕ → List ℕ
+options_of s = run (count_at s + 4) (options_in s) s

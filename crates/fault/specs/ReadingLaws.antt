@@ -5,19 +5,19 @@ use Rattle.std.proofs.Math.Logic.{ite}
 use Rattle.std.proofs.Math.ListN.{get_or-eq_default}
 use Rattle.std.proofs.lemmas.Bool.{lt-leb}
 use Rattle.octets.specs.Number.{octet}
-use Rattle.octets.specs.NumberLaws.{Octets, number-drop}
+use Rattle.octets.specs.NumberLaws.{Octets, number_drop}
 use Rattle.octets.specs.Run.{run, laid}
-use Rattle.octets.specs.RunLaws.{octet-run, laid-all}
-use Rattle.octets.specs.Split.{lt-or-le, same_test, never_both}
+use Rattle.octets.specs.RunLaws.{octet_run, laid_all}
+use Rattle.octets.specs.Split.{lt_or_le, same_test, never_both}
 use Rattle.map.specs.Map.{bit}
-use Rattle.fault.specs.Section.{Section, isDead, bitsSize, octetsOf, SectionOf}
-use Rattle.fault.specs.Bits.{unpacked, deadIn}
-use Rattle.fault.specs.BitsLaws.{unpacked-at}
-use Rattle.fault.specs.Places.{modulesIn, errorsIn, listAt, errorsFrom}
-use Rattle.fault.specs.ErrorsLaws.{errors-at, length-errors}
-use Rattle.fault.specs.SectionLaws.{Within, within-facts, bits-enough, section?, sectionIn, section-back, is-judged, judged-section, says-modules, says-errors, says-options, name-there, options-there}
+use Rattle.fault.specs.Section.{Section, is_dead, bits_size, octets_of, SectionOf}
+use Rattle.fault.specs.Bits.{unpacked, dead_in}
+use Rattle.fault.specs.BitsLaws.{unpacked_at}
+use Rattle.fault.specs.Places.{modules_in, errors_in, list_at, errors_from}
+use Rattle.fault.specs.ErrorsLaws.{errors_at, length_errors}
+use Rattle.fault.specs.SectionLaws.{Within, within_facts, bits_enough, maybe_section, section_in, section_back, is_judged, judged_section, says_modules, says_errors, says_options, name_there, options_there}
 use Rattle.fault.specs.private.Judged.{judged}
-use Rattle.fault.specs.Reading.{isSection, reportOf, report, deadAt, noError, errorAt, optionsOf}
+use Rattle.fault.specs.Reading.{is_section, report_of, report, dead_at, no_error, error_at, options_of}
 
 -- ---- whether it is one
 
@@ -30,79 +30,79 @@ tells (yes x) p = refl
 tells (no f) p = absurd (f p)
 
 -- "exactly the octets of such sections": both directions.
-pub is-section : (s : List ℕ) → isSection s ≡ true → SectionOf s
-unfolding isSection
-is-section s = told (section? s)
+pub is_section_lem : (s : List ℕ) → is_section s ≡ true → SectionOf s
+unfolding is_section
+is_section_lem s = told (maybe_section s)
 
-pub section-is : (s : List ℕ) → SectionOf s → isSection s ≡ true
-unfolding isSection
-section-is s = tells (section? s)
+pub section_is : (s : List ℕ) → SectionOf s → is_section s ≡ true
+unfolding is_section
+section_is s = tells (maybe_section s)
 
 -- By what stands at the places of octets.
-pub section-by : (s : List ℕ) → Octets s → isSection s ≡ judged s
-section-by s o = same_test (isSection s) (judged s) (λ e. (is-judged s (is-section s e)).1) (λ e. section-is s (judged-section s o e))
+pub section_by : (s : List ℕ) → Octets s → is_section s ≡ judged s
+section_by s o = same_test (is_section s) (judged s) (λ e. (is_judged s (is_section_lem s e)).1) (λ e. section_is s (judged_section s o e))
 
 -- A section has its whole name.
-whole : (s : List ℕ) → SectionOf s → length (run (8 + bitsSize (modulesIn s)) 8 s) ≡ 8
+whole : (s : List ℕ) → SectionOf s → length (run (8 + bits_size (modules_in s)) 8 s) ≡ 8
 whole s (x, is, e) =
-    let w = within-facts x is in
-    rw (← e) (ap length (name-there x w) ∙ w.name-eight)
+    let w = within_facts x is in
+    rw (← e) (ap length (name_there x w) ∙ w.name_eight)
 
-pub name-whole : (s : List ℕ) → isSection s ≡ true
-    → laid (replicate 8 0) 0 (run (8 + bitsSize (modulesIn s)) 8 s) ≡ run (8 + bitsSize (modulesIn s)) 8 s
-name-whole s is = laid-all (replicate 8 0) (run (8 + bitsSize (modulesIn s)) 8 s) (whole s (is-section s is))
+pub name_whole : (s : List ℕ) → is_section s ≡ true
+    → laid (replicate 8 0) 0 (run (8 + bits_size (modules_in s)) 8 s) ≡ run (8 + bits_size (modules_in s)) 8 s
+name_whole s is = laid_all (replicate 8 0) (run (8 + bits_size (modules_in s)) 8 s) (whole s (is_section_lem s is))
 
 -- ---- what it says
 
 module _ (x : Section) (w : Within x) where
-  pub report-back : reportOf (octetsOf x) ≡ report x
-  unfolding reportOf
-  report-back = rw (says-options x w, says-errors x w, name-there x w, says-modules x w)
+  pub report_back : report_of (octets_of x) ≡ report x
+  unfolding report_of
+  report_back = rw (says_options x w, says_errors x w, name_there x w, says_modules x w)
 
-  pub options-back : optionsOf (octetsOf x) ≡ x.options
-  unfolding optionsOf
-  options-back = options-there x w
+  pub options_back : options_of (octets_of x) ≡ x.options
+  unfolding options_of
+  options_back = options_there x w
 
 -- The bit of a module that is counted stands where unpacking finds it.
-dead-in : (s : List ℕ) (k : ℕ) → 1 ≤ k → k ≤ modulesIn s
-    → eqb (bit ((k - 1) % 8) (octet s (4 + (k - 1) / 8))) 1 ≡ get_or (sectionIn s).dead (k - 1) false
-unfolding sectionIn
-dead-in s k one most =
-    let size = bitsSize (modulesIn s) in
-    let near : (k - 1) / 8 < size = omega (arith, bits-enough (modulesIn s)) in
-    sym (get_or-take (modulesIn s) (unpacked (run 4 size s)) (k - 1) false (omega arith) ∙ unpacked-at (run 4 size s) (k - 1)
-    ∙ ap (λ (o : ℕ). eqb (bit ((k - 1) % 8) o) 1) (octet-run 4 size s ((k - 1) / 8) near))
+dead_in_lem : (s : List ℕ) (k : ℕ) → 1 ≤ k → k ≤ modules_in s
+    → eqb (bit ((k - 1) % 8) (octet s (4 + (k - 1) / 8))) 1 ≡ get_or (section_in s).dead (k - 1) false
+unfolding section_in
+dead_in_lem s k one most =
+    let size = bits_size (modules_in s) in
+    let near : (k - 1) / 8 < size = omega (arith, bits_enough (modules_in s)) in
+    sym (get_or-take (modules_in s) (unpacked (run 4 size s)) (k - 1) false (omega arith) ∙ unpacked_at (run 4 size s) (k - 1)
+    ∙ ap (λ (o : ℕ). eqb (bit ((k - 1) % 8) o) 1) (octet_run 4 size s ((k - 1) / 8) near))
 
-dead-past : (s : List ℕ) (k : ℕ) → modulesIn s < k → get_or (sectionIn s).dead (k - 1) false ≡ false
-unfolding sectionIn
-dead-past s k past =
-    get_or-eq_default (deadIn (modulesIn s) (run 4 (bitsSize (modulesIn s)) s)) false {n = k - 1}
-    (rw (length-take (modulesIn s) (unpacked (run 4 (bitsSize (modulesIn s)) s))) (omega arith))
+dead_past : (s : List ℕ) (k : ℕ) → modules_in s < k → get_or (section_in s).dead (k - 1) false ≡ false
+unfolding section_in
+dead_past s k past =
+    get_or-eq_default (dead_in (modules_in s) (run 4 (bits_size (modules_in s)) s)) false {n = k - 1}
+    (rw (length-take (modules_in s) (unpacked (run 4 (bits_size (modules_in s)) s))) (omega arith))
 
-dead-is : (s : List ℕ) (k : ℕ) → deadAt s k ≡ isDead (sectionIn s) k
-unfolding deadAt
-dead-is s k = ⊎_elim
+dead_is : (s : List ℕ) (k : ℕ) → dead_at s k ≡ is_dead (section_in s) k
+unfolding dead_at
+dead_is s k = ⊎_elim
     (λ (h : k < 1). rw (lt-leb 1 k h))
     (λ (one : 1 ≤ k). ⊎_elim
-    (λ (h : modulesIn s < k). rw (le-leb 1 k one, lt-leb k (modulesIn s) h, dead-past s k h))
-    (λ (h : k ≤ modulesIn s). rw (le-leb 1 k one, le-leb k (modulesIn s) h) (dead-in s k one h))
-    (lt-or-le (modulesIn s) k))
-    (lt-or-le k 1)
+    (λ (h : modules_in s < k). rw (le-leb 1 k one, lt-leb k (modules_in s) h, dead_past s k h))
+    (λ (h : k ≤ modules_in s). rw (le-leb 1 k one, le-leb k (modules_in s) h) (dead_in_lem s k one h))
+    (lt_or_le (modules_in s) k))
+    (lt_or_le k 1)
 
-error-is : (s : List ℕ) (k : ℕ) → errorAt s k ≡ get_or (sectionIn s).errors k noError
-unfolding errorAt sectionIn
-error-is s k = ⊎_elim
-    (λ (h : k < errorsIn s).
-    let second : listAt s + (4 * k + 2) ≡ listAt s + 4 * k + 2 = omega arith in
-    rw (lt-ltb k (errorsIn s) h)
-    (sym (errors-at (errorsIn s) (drop (listAt s) s) k noError h ∙ rw (number-drop 2 (listAt s) s (4 * k), number-drop 2 (listAt s) s (4 * k + 2), second))))
-    (λ (h : errorsIn s ≤ k).
-    rw (le-ltb k (errorsIn s) h) (sym (get_or-eq_default (errorsFrom (errorsIn s) (drop (listAt s) s)) noError {n = k} (omega (arith, length-errors (errorsIn s) (drop (listAt s) s))))))
-    (lt-or-le k (errorsIn s))
+error_is : (s : List ℕ) (k : ℕ) → error_at s k ≡ get_or (section_in s).errors k no_error
+unfolding error_at section_in
+error_is s k = ⊎_elim
+    (λ (h : k < errors_in s).
+    let second : list_at s + (4 * k + 2) ≡ list_at s + 4 * k + 2 = omega arith in
+    rw (lt-ltb k (errors_in s) h)
+    (sym (errors_at (errors_in s) (drop (list_at s) s) k no_error h ∙ rw (number_drop 2 (list_at s) s (4 * k), number_drop 2 (list_at s) s (4 * k + 2), second))))
+    (λ (h : errors_in s ≤ k).
+    rw (le-ltb k (errors_in s) h) (sym (get_or-eq_default (errors_from (errors_in s) (drop (list_at s) s)) no_error {n = k} (omega (arith, length_errors (errors_in s) (drop (list_at s) s))))))
+    (lt_or_le k (errors_in s))
 
 module _ (x : Section) (w : Within x) where
-  pub dead-back : (k : ℕ) → deadAt (octetsOf x) k ≡ isDead x k
-  dead-back k = dead-is (octetsOf x) k ∙ ap (λ (y : Section). isDead y k) (section-back x w)
+  pub dead_back : (k : ℕ) → dead_at (octets_of x) k ≡ is_dead x k
+  dead_back k = dead_is (octets_of x) k ∙ ap (λ (y : Section). is_dead y k) (section_back x w)
 
-  pub error-back : (k : ℕ) → errorAt (octetsOf x) k ≡ get_or x.errors k noError
-  error-back k = error-is (octetsOf x) k ∙ ap (λ (y : Section). get_or y.errors k noError) (section-back x w)
+  pub error_back : (k : ℕ) → error_at (octets_of x) k ≡ get_or x.errors k no_error
+  error_back k = error_is (octets_of x) k ∙ ap (λ (y : Section). get_or y.errors k no_error) (section_back x w)

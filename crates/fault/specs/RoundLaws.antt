@@ -6,41 +6,41 @@ use Rattle.std.proofs.Math.Dec.{eqb, leb}
 use Rattle.std.proofs.Math.Pow.{are_bytes}
 use Rattle.octets.specs.Split.{both}
 use Rattle.fault.specs.declared.Error.{Error}
-use Rattle.fault.specs.Section.{Section, bitsSize, bits_of, numbersOf, octetsOf, areErrors, mostSection}
-use Rattle.fault.specs.Bits.{noneAbove}
-use Rattle.fault.specs.BitsLaws.{length-packed, packed_none, unpacked-packed}
-use Rattle.fault.specs.ErrorsLaws.{length-numbers}
-use Rattle.fault.specs.SectionLaws.{Within, bits-enough, section-size}
-use Rattle.fault.specs.Writing.{errorsGiven, sectionGiven, sizeGiven, keepsRules}
-use Rattle.fault.specs.WritingLaws.{Keeps, given-modules, given-count}
+use Rattle.fault.specs.Section.{Section, bits_size, bits_of, numbers_of, octets_of, are_errors, most_section}
+use Rattle.fault.specs.Bits.{none_above}
+use Rattle.fault.specs.BitsLaws.{length_packed, packed_none, unpacked_packed}
+use Rattle.fault.specs.ErrorsLaws.{length_numbers}
+use Rattle.fault.specs.SectionLaws.{Within, bits_enough, section_size}
+use Rattle.fault.specs.Writing.{errors_given, section_given, size_given, keeps_rules}
+use Rattle.fault.specs.WritingLaws.{Keeps, given_modules, given_count}
 
 -- ---- what is given and kept
 
-module _ (modules : ℕ) (bits numbers name options : List ℕ) (k : Keeps (sizeGiven modules numbers options) modules bits numbers) (small : are_bytes bits ≡ true) where
+module _ (modules : ℕ) (bits numbers name options : List ℕ) (k : Keeps (size_given modules numbers options) modules bits numbers) (small : are_bytes bits ≡ true) where
   abbrev x : Section
-  x = sectionGiven modules bits numbers name options
+  x = section_given modules bits numbers name options
 
   -- It needs the octets that it has,
-  pub given-size : length name ≡ 8 → length (octetsOf x) ≡ sizeGiven modules numbers options
-  given-size eight =
+  pub given_size : length name ≡ 8 → length (octets_of x) ≡ size_given modules numbers options
+  given_size eight =
       let even = k.even in
-      section-size x
-      ∙ rw (given-modules (sizeGiven modules numbers options) modules bits numbers name options k small, given-count numbers, eight) (omega arith)
+      section_size x
+      ∙ rw (given_modules (size_given modules numbers options) modules bits numbers name options k small, given_count numbers, eight) (omega arith)
 
   -- and is within the rules.
-  pub given-within : length name ≡ 8 → are_bytes name ≡ true → are_bytes options ≡ true → Within x
-  given-within eight name-small options-small = record {
-    name-eight = eight;
-    name-small = name-small;
-    errors-are = k.errors;
-    options-small = options-small;
-    fits = rw (given-size eight) k.most;
+  pub given_within_lem : length name ≡ 8 → are_bytes name ≡ true → are_bytes options ≡ true → Within x
+  given_within_lem eight name_small options_small = record {
+    name_eight = eight;
+    name_small = name_small;
+    errors_are = k.errors;
+    options_small = options_small;
+    fits = rw (given_size eight) k.most;
   }
 
 -- ---- the parts of a section
 
-given_back : (es : List Error) → errorsGiven (numbersOf es) ≡ es
-unfolding errorsGiven numbersOf
+given_back : (es : List Error) → errors_given (numbers_of es) ≡ es
+unfolding errors_given numbers_of
 given_back [] = refl
 given_back (e ∷ es) = ap (λ (t : List Error). e ∷ t) (given_back es)
 
@@ -49,42 +49,42 @@ module _ (x : Section) (w : Within x) where
   m = length x.dead
 
   -- Given again, they are the section.
-  pub given-same : sectionGiven m (bits_of x.dead) (numbersOf x.errors) x.name x.options ≡ x
-  given-same = rw (given_back x.errors, unpacked-packed (bitsSize m) x.dead (bits-enough m))
+  pub given_same : section_given m (bits_of x.dead) (numbers_of x.errors) x.name x.options ≡ x
+  given_same = rw (given_back x.errors, unpacked_packed (bits_size m) x.dead (bits_enough m))
 
-  pub size_same : sizeGiven m (numbersOf x.errors) x.options ≡ length (octetsOf x)
-  size_same = sym (section-size x ∙ omega (arith, length-numbers x.errors, w.name-eight))
+  pub size_same : size_given m (numbers_of x.errors) x.options ≡ length (octets_of x)
+  size_same = sym (section_size x ∙ omega (arith, length_numbers x.errors, w.name_eight))
 
-  pub parts-keep : keepsRules (sizeGiven m (numbersOf x.errors) x.options) m (bits_of x.dead) (numbersOf x.errors) ≡ true
-  unfolding keepsRules
-  parts-keep =
-      let size = sizeGiven m (numbersOf x.errors) x.options in
-      let a = leb size mostSection in
-      let b = eqb (length (bits_of x.dead)) (bitsSize m) in
-      let c = eqb (length (numbersOf x.errors) % 2) 0 in
-      let d = noneAbove m (bits_of x.dead) in
-      let e = areErrors (errorsGiven (numbersOf x.errors)) in
+  pub parts_keep : keeps_rules (size_given m (numbers_of x.errors) x.options) m (bits_of x.dead) (numbers_of x.errors) ≡ true
+  unfolding keeps_rules
+  parts_keep =
+      let size = size_given m (numbers_of x.errors) x.options in
+      let a = leb size most_section in
+      let b = eqb (length (bits_of x.dead)) (bits_size m) in
+      let c = eqb (length (numbers_of x.errors) % 2) 0 in
+      let d = none_above m (bits_of x.dead) in
+      let e = are_errors (errors_given (numbers_of x.errors)) in
       both (a && b && c && d) e
       (both (a && b && c) d
       (both (a && b) c
-      (both a b (le-leb size mostSection (rw size_same w.fits)) (eq-eqb (length (bits_of x.dead)) (bitsSize m) (length-packed (bitsSize m) x.dead)))
-      (eq-eqb (length (numbersOf x.errors) % 2) 0 (omega (arith, length-numbers x.errors))))
-      (packed_none (bitsSize m) x.dead))
-      (rw (given_back x.errors) w.errors-are)
+      (both a b (le-leb size most_section (rw size_same w.fits)) (eq-eqb (length (bits_of x.dead)) (bits_size m) (length_packed (bits_size m) x.dead)))
+      (eq-eqb (length (numbers_of x.errors) % 2) 0 (omega (arith, length_numbers x.errors))))
+      (packed_none (bits_size m) x.dead))
+      (rw (given_back x.errors) w.errors_are)
 
 -- Numbers two by two, known by the errors that they are.
-pub numbers-are : (es : List Error) (z : Error) (l : List ℕ) → length l ≡ 2 * length es
+pub numbers_are : (es : List Error) (z : Error) (l : List ℕ) → length l ≡ 2 * length es
     → ((k : ℕ) → k < length es → (get_or l (2 * k) 0 ≡ (get_or es k z).«module») × (get_or l (2 * k + 1) 0 ≡ (get_or es k z).error))
-    → l ≡ numbersOf es
-unfolding numbersOf
-numbers-are [] z [] e f = refl
-numbers-are [] z (x ∷ l) e f = absurd (omega arith)
-numbers-are (e ∷ es) z [] long f = absurd (omega arith)
-numbers-are (e ∷ es) z (x ∷ []) long f = absurd (omega arith)
-numbers-are (e ∷ es) z (x ∷ y ∷ l) long f =
+    → l ≡ numbers_of es
+unfolding numbers_of
+numbers_are [] z [] e f = refl
+numbers_are [] z (x ∷ l) e f = absurd (omega arith)
+numbers_are (e ∷ es) z [] long f = absurd (omega arith)
+numbers_are (e ∷ es) z (x ∷ []) long f = absurd (omega arith)
+numbers_are (e ∷ es) z (x ∷ y ∷ l) long f =
     ap₂ (λ (a : ℕ) (t : List ℕ). a ∷ t) (f 0 (omega arith)).0
     (ap₂ (λ (a : ℕ) (t : List ℕ). a ∷ t) (f 0 (omega arith)).1
-    (numbers-are es z l (omega arith) (λ k h.
+    (numbers_are es z l (omega arith) (λ k h.
     let g = f (suc k) (omega arith) in
     (ap (λ (i : ℕ). get_or (x ∷ y ∷ l) i 0) (there k) ∙ g.0, ap (λ (i : ℕ). get_or (x ∷ y ∷ l) i 0) (next k) ∙ g.1))))
   where

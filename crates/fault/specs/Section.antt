@@ -15,64 +15,64 @@ pub record Section : Type 0 where
   pub options : List ℕ
 
 -- Whether module X, "from 1", is dead; one that is not counted is not.
-abbrev pub isDead : Section → ℕ → Bool
-isDead x k = leb 1 k && get_or x.dead (k - 1) false
+abbrev pub is_dead : Section → ℕ → Bool
+is_dead x k = leb 1 k && get_or x.dead (k - 1) false
 
 -- ---- its octets
 
 -- "L is (modules + 31) / 32 × 4, the division rounded down, so 33 modules give 8."
-abbrev pub bitsSize : ℕ → ℕ
-bitsSize modules = (modules + 31) / 32 * 4
+abbrev pub bits_size : ℕ → ℕ
+bits_size modules = (modules + 31) / 32 * 4
 
 -- A number by its bits, "lowest first".
-unfoldable pub lowestFirst : List Bool → ℕ
-lowestFirst [] = 0
-lowestFirst (b ∷ bits) = cond b 1 0 + lowestFirst bits * 2
+unfoldable pub lowest_first : List Bool → ℕ
+lowest_first [] = 0
+lowest_first (b ∷ bits) = cond b 1 0 + lowest_first bits * 2
 
 -- So many octets of bits: the first has the first eight, the next the next eight.
 unfoldable pub packed : ℕ → List Bool → List ℕ
 packed zero bits = []
-packed (suc n) bits = lowestFirst (take 8 bits) ∷ packed n (drop 8 bits)
+packed (suc n) bits = lowest_first (take 8 bits) ∷ packed n (drop 8 bits)
 
 -- "Module X has bit (X − 1) mod 8, lowest first, of octet (X − 1) / 8, set when dead; bits above the count are written 0"
 abbrev pub bits_of : List Bool → List ℕ
-bits_of dead = packed (bitsSize (length dead)) dead
+bits_of dead = packed (bits_size (length dead)) dead
 
 -- "errors of two 16-bit numbers (module, from 1, and error)"
-unfoldable pub numbersOf : List Error → List ℕ
-numbersOf [] = []
-numbersOf (e ∷ es) = e.«module» ∷ e.error ∷ numbersOf es
+unfoldable pub numbers_of : List Error → List ℕ
+numbers_of [] = []
+numbers_of (e ∷ es) = e.«module» ∷ e.error ∷ numbers_of es
 
 -- Two octets for each, high octet first.
-unfoldable pub pairsOf : List ℕ → List ℕ
-pairsOf [] = []
-pairsOf (x ∷ xs) = octets 2 x ++ pairsOf xs
+unfoldable pub pairs_of : List ℕ → List ℕ
+pairs_of [] = []
+pairs_of (x ∷ xs) = octets 2 x ++ pairs_of xs
 
 -- The counts have four octets each.
-unfoldable pub octetsOf : Section → List ℕ
-octetsOf x =
-    octets 4 (length x.dead) ++ (bits_of x.dead ++ (octets 4 (length x.errors) ++ (x.name ++ (pairsOf (numbersOf x.errors)
+unfoldable pub octets_of : Section → List ℕ
+octets_of x =
+    octets 4 (length x.dead) ++ (bits_of x.dead ++ (octets 4 (length x.errors) ++ (x.name ++ (pairs_of (numbers_of x.errors)
     ++ (octets 4 (length x.options) ++ x.options)))))
 
 -- ---- the rules
 
 -- "errors of two 16-bit numbers (module, from 1, and error)"
-abbrev pub isError : Error → Bool
-isError e = within 1 65535 e.«module» && leb e.error 65535
+abbrev pub is_error : Error → Bool
+is_error e = within 1 65535 e.«module» && leb e.error 65535
 
-unfoldable pub areErrors : List Error → Bool
-areErrors [] = true
-areErrors (e ∷ es) = isError e && areErrors es
+unfoldable pub are_errors : List Error → Bool
+are_errors [] = true
+are_errors (e ∷ es) = is_error e && are_errors es
 
 -- "Table 9 allows 332 errors, but the option count takes room too: the total of 1,344 octets decides"
-abbrev pub mostSection : ℕ
-mostSection = 1344
+abbrev pub most_section : ℕ
+most_section = 1344
 
 -- "eight-octet name"; name and options are octets.
-unfoldable pub isWithin : Section → Bool
-isWithin x =
-    eqb (length x.name) 8 && are_bytes x.name && areErrors x.errors && are_bytes x.options && leb (length (octetsOf x)) mostSection
+unfoldable pub is_within : Section → Bool
+is_within x =
+    eqb (length x.name) 8 && are_bytes x.name && are_errors x.errors && are_bytes x.options && leb (length (octets_of x)) most_section
 
 -- These are the octets of a section within the rules.
 abbrev pub SectionOf : List ℕ → Type 0
-SectionOf s = (x : Section) × (isWithin x ≡ true) × (octetsOf x ≡ s)
+SectionOf s = (x : Section) × (is_within x ≡ true) × (octets_of x ≡ s)

@@ -1,6 +1,6 @@
 // What the counts in a section say, and where what they count stands.
 ghost use Rattle.std.specs.Prelude.{◌≡◌};
-ghost use Rattle.fault.specs.Places.{placesOf};
+ghost use Rattle.fault.specs.Places.{places_of};
 
 use crate::bits::bits_size;
 use octets::read4;
@@ -18,7 +18,7 @@ pub struct Places {
 }
 
 pub fn places_of(s: &[u8]) -> Places
-    ensures { result ≡ placesOf s.now }
+    ensures { result ≡ places_of s.now }
 {
     let modules = read4(s, 0);
     let size = bits_size(modules);

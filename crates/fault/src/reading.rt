@@ -2,11 +2,11 @@
 // nothing out. From octets that are no section they give what stands at the places that the counts in them name.
 ghost use Rattle.std.specs.Prelude.{◌≡◌, ◌+◌, ◌*◌, ◌≤◌, length, drop, replicate};
 ghost use Rattle.octets.specs.Run.{run as run_of, laid};
-ghost use Rattle.fault.specs.Section.{areErrors};
-ghost use Rattle.fault.specs.Places.{countAt, errorsFrom};
-ghost use Rattle.fault.specs.Reading.{isSection, reading_of, deadAt, errorAt, optionsOf};
-ghost use Rattle.fault.specs.private.Judged.{holdsRules};
-ghost use Rattle.fault.specs.Places.{placesOf};
+ghost use Rattle.fault.specs.Section.{are_errors};
+ghost use Rattle.fault.specs.Places.{count_at, errors_from};
+ghost use Rattle.fault.specs.Reading.{is_section, reading_of, dead_at, error_at, options_of};
+ghost use Rattle.fault.specs.private.Judged.{holds_rules};
+ghost use Rattle.fault.specs.Places.{places_of};
 
 use crate::bits::{bits_size, none_above};
 use crate::places::{Places, places_of};
@@ -55,15 +55,15 @@ pub fn read_section(s: &[u8]) -> Report
 
 // Whether these are the octets of a section, from the first to the last.
 pub fn is_section(s: &[u8]) -> bool
-    ensures { result ≡ isSection s.now }
+    ensures { result ≡ is_section s.now }
 {
     is_judged(s, places_of(s))
 }
 
 // By its counts and places, which are read once.
 fn is_judged(s: &[u8], p: Places) -> bool
-    requires { p ≡ placesOf s.now }
-    ensures { result ≡ isSection s.now }
+    requires { p ≡ places_of s.now }
+    ensures { result ≡ is_section s.now }
 {
     if s.len() != p.rest + p.options as usize {
         return false;
@@ -73,8 +73,8 @@ fn is_judged(s: &[u8], p: Places) -> bool
 
 // Its length, its bits and its errors.
 fn holds_rules(s: &[u8], p: Places) -> bool
-    requires { (p ≡ placesOf s.now) × (p.rest ≤ length s.now) }
-    ensures { result ≡ holdsRules s.now }
+    requires { (p ≡ places_of s.now) × (p.rest ≤ length s.now) }
+    ensures { result ≡ holds_rules s.now }
 {
     if MOST < s.len() {
         return false;
@@ -89,7 +89,7 @@ fn holds_rules(s: &[u8], p: Places) -> bool
 // Whether no error of the n from a place on names the module 0.
 fn are_errors(s: &[u8], at: usize, n: u32) -> bool
     requires { at + 4 * n ≤ length s.now }
-    ensures { result ≡ areErrors (errorsFrom n (drop at s.now)) }
+    ensures { result ≡ are_errors (errors_from n (drop at s.now)) }
 {
     let mut next = at;
     let mut left = n;
@@ -113,7 +113,7 @@ fn name_at(s: &[u8], at: usize) -> [u8; NAME]
 
 // Whether module x, from 1, is dead.
 pub fn is_dead(s: &[u8], x: u32) -> bool
-    ensures { result ≡ deadAt s.now x }
+    ensures { result ≡ dead_at s.now x }
 {
     if x == 0 {
         return false;
@@ -128,7 +128,7 @@ pub fn is_dead(s: &[u8], x: u32) -> bool
 
 // Error k, from 0.
 pub fn error_at(s: &[u8], k: u32) -> Error
-    ensures { result ≡ errorAt s.now k }
+    ensures { result ≡ error_at s.now k }
 {
     let size = bits_size(read4(s, 0));
     if read4(s, 4 + size) <= k {
@@ -142,7 +142,7 @@ pub fn error_at(s: &[u8], k: u32) -> Error
 }
 
 pub fn options(s: &[u8]) -> &[u8]
-    ensures { result.now ≡ optionsOf s.now }
+    ensures { result.now ≡ options_of s.now }
 {
     let p = places_of(s);
     run(s, p.rest, p.options as usize)
@@ -150,7 +150,7 @@ pub fn options(s: &[u8]) -> &[u8]
 
 // Where the options start.
 pub fn options_at(s: &[u8]) -> usize
-    ensures { result ≡ countAt s.now + 4 }
+    ensures { result ≡ count_at s.now + 4 }
 {
     let p = places_of(s);
     p.rest

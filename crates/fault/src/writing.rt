@@ -1,9 +1,9 @@
 // A section written into a lent buffer. Nothing is stored before 23 and 24 are decided.
 ghost use Rattle.std.specs.Prelude.{◌≡◌, true, ◌+◌, ◌*◌, ◌≤◌, ltb, length};
 ghost use Rattle.octets.specs.Run.{laid};
-ghost use Rattle.fault.specs.Section.{mostSection, pairsOf, octetsOf, areErrors};
-ghost use Rattle.fault.specs.Writing.{errorsGiven, sectionGiven, sizeGiven, keepsRules, writingOf, bufferOf, writingTold};
-ghost use Rattle.fault.specs.private.Laid.{frontOf, backOf};
+ghost use Rattle.fault.specs.Section.{most_section, pairs_of, octets_of, are_errors};
+ghost use Rattle.fault.specs.Writing.{errors_given, section_given, size_given, keeps_rules, writing_of, buffer_of, writing_told};
+ghost use Rattle.fault.specs.private.Laid.{front_of, back_of};
 
 use crate::bits::{bits_size, none_above};
 use crate::{MOST, NAME};
@@ -20,7 +20,7 @@ pub enum Writing {
 impl Writing {
     // 0, 23 or 24.
     pub fn number(self) -> u8
-        ensures { result ≡ (writingTold self).number }
+        ensures { result ≡ (writing_told self).number }
     {
         match self {
             Writing::Written(_) => 0,
@@ -31,7 +31,7 @@ impl Writing {
 
     // The section's length, 0 on a refusal.
     pub fn length(self) -> u16
-        ensures { result ≡ (writingTold self).length }
+        ensures { result ≡ (writing_told self).length }
     {
         match self {
             Writing::Written(length) => length,
@@ -51,8 +51,8 @@ pub fn write_section(
     options: &[u8],
     buffer: &mut [u8],
 ) -> Writing
-    ensures answer { result ≡ writingOf modules bits.now errors.now options.now (length buffer.old) }
-    ensures written { buffer.new ≡ bufferOf modules bits.now errors.now name options.now buffer.old }
+    ensures answer { result ≡ writing_of modules bits.now errors.now options.now (length buffer.old) }
+    ensures written { buffer.new ≡ buffer_of modules bits.now errors.now name options.now buffer.old }
 {
     let size = bits_size(modules);
     if is_short(buffer.len(), size, errors.len(), options.len()) {
@@ -87,7 +87,7 @@ fn is_short(room: usize, bits: usize, numbers: usize, options: usize) -> bool
 
 // Whether what is given is a section's parts, of so many octets in all.
 fn keeps_rules(size: usize, modules: u32, bits: &[u8], errors: &[u16]) -> bool
-    ensures { result ≡ keepsRules size modules bits.now errors.now }
+    ensures { result ≡ keeps_rules size modules bits.now errors.now }
 {
     if !((size <= MOST) & (bits.len() == bits_size(modules)) & (errors.len() % 2 == 0)) {
         return false;
@@ -100,7 +100,7 @@ fn keeps_rules(size: usize, modules: u32, bits: &[u8], errors: &[u16]) -> bool
 
 // Whether no error names the module 0.
 fn are_errors(numbers: &[u16]) -> bool
-    ensures { result ≡ areErrors (errorsGiven numbers.now) }
+    ensures { result ≡ are_errors (errors_given numbers.now) }
 {
     let mut i: usize = 0;
     while i + 1 < numbers.len() {
@@ -121,8 +121,8 @@ fn write_parts(
     options: &[u8],
     buffer: &mut [u8],
 )
-    requires { (keepsRules (sizeGiven modules errors.now options.now) modules bits.now errors.now ≡ true) × (sizeGiven modules errors.now options.now ≤ length buffer.old) }
-    ensures { buffer.new ≡ laid buffer.old 0 (octetsOf (sectionGiven modules bits.now errors.now name options.now)) }
+    requires { (keeps_rules (size_given modules errors.now options.now) modules bits.now errors.now ≡ true) × (size_given modules errors.now options.now ≤ length buffer.old) }
+    ensures { buffer.new ≡ laid buffer.old 0 (octets_of (section_given modules bits.now errors.now name options.now)) }
 {
     let list = 16 + bits.len();
     write_front(buffer, modules, bits, (errors.len() / 2) as u32, name);
@@ -132,7 +132,7 @@ fn write_parts(
 // What stands before the errors: their count and name too.
 fn write_front(buffer: &mut [u8], modules: u32, bits: &[u8], errors: u32, name: [u8; NAME])
     requires { 16 + length bits.now ≤ length buffer.old }
-    ensures { buffer.new ≡ laid buffer.old 0 (frontOf modules bits.now errors name) }
+    ensures { buffer.new ≡ laid buffer.old 0 (front_of modules bits.now errors name) }
 {
     let n = bits.len();
     write4(buffer, 0, modules);
@@ -143,8 +143,8 @@ fn write_front(buffer: &mut [u8], modules: u32, bits: &[u8], errors: u32, name: 
 
 // The errors, and what stands behind them.
 fn write_back(buffer: &mut [u8], at: usize, errors: &[u16], options: &[u8])
-    requires { (at + 2 * length errors.now + 4 + length options.now ≤ length buffer.old) × (length options.now ≤ mostSection) }
-    ensures { buffer.new ≡ laid buffer.old at (backOf errors.now options.now) }
+    requires { (at + 2 * length errors.now + 4 + length options.now ≤ length buffer.old) × (length options.now ≤ most_section) }
+    ensures { buffer.new ≡ laid buffer.old at (back_of errors.now options.now) }
 {
     let count = at + 2 * errors.len();
     write_numbers(buffer, at, errors);
@@ -155,7 +155,7 @@ fn write_back(buffer: &mut [u8], at: usize, errors: &[u16], options: &[u8])
 // Octet by octet, which the compiler makes many at a time; a call for each number would be asked for its room each time.
 fn write_numbers(s: &mut [u8], at: usize, numbers: &[u16])
     requires { at + 2 * length numbers.now ≤ length s.old }
-    ensures { s.new ≡ laid s.old at (pairsOf numbers.now) }
+    ensures { s.new ≡ laid s.old at (pairs_of numbers.now) }
 {
     let mut i = 0;
     while i < numbers.len() {

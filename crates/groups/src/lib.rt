@@ -2,7 +2,7 @@
 //
 // Every public function is total: it takes any count and any numbers. Places past the count are never looked at.
 ghost use Rattle.std.specs.Prelude.{◌≡◌, get_or};
-ghost use Rattle.groups.specs.Groups.{noGroup, is_group, number_at, placeAmong, groupsWithin, place_of, kept_at, kept as keptOf};
+ghost use Rattle.groups.specs.Groups.{no_group, is_group, number_at, place_among, groups_within, place_of, kept_at, kept as kept_of};
 
 // 1 to 255
 #[repr(C)]
@@ -35,7 +35,7 @@ impl Groups {
 
     // The group at a place, none where there is no such place.
     pub fn at(self, i: u8) -> Group
-        ensures { result ≡ get_or self.list i noGroup }
+        ensures { result ≡ get_or self.list i no_group }
     {
         if Groups::PLACES <= i as usize {
             return Group(0);
@@ -45,7 +45,7 @@ impl Groups {
 
     // Whether there are no more than there may be, each within its limits, and none twice.
     pub fn within(self) -> bool
-        ensures { result ≡ groupsWithin self }
+        ensures { result ≡ groups_within self }
     {
         let count = self.count;
         if Groups::PLACES < count as usize {
@@ -63,7 +63,7 @@ impl Groups {
 
     // At which of the first k places a group stands; k where it stands at none.
     fn place_among(self, k: u8, group: Group) -> u8
-        ensures { result ≡ placeAmong (number_at self) k group.0 }
+        ensures { result ≡ place_among (number_at self) k group.0 }
     {
         let mut i: u8 = 0;
         while i < k {
@@ -92,7 +92,7 @@ impl Groups {
 
     // The groups as they are kept.
     pub fn kept(self) -> Groups
-        ensures { result ≡ keptOf self }
+        ensures { result ≡ kept_of self }
     {
         let mut kept = Groups::NONE;
         kept.count = self.count;

@@ -11,36 +11,36 @@ unfoldable pub code_of : ℕ → Code
 code_of n = cond (within 1 59999 n) User (cond (eqb n 60003) Alive (cond (within 60000 65534 n) System Neither))
 
 -- "Messages carry user codes only."
-abbrev pub isUserCode : Code → Bool
-isUserCode User = true
-isUserCode Alive = false
-isUserCode System = false
-isUserCode Neither = false
+abbrev pub is_user_code : Code → Bool
+is_user_code User = true
+is_user_code Alive = false
+is_user_code System = false
+is_user_code Neither = false
 
-abbrev pub isUser : ℕ → Bool
-isUser n = isUserCode (code_of n)
+abbrev pub is_user : ℕ → Bool
+is_user n = is_user_code (code_of n)
 
 -- "of which 60,003 is the alive signal"
-abbrev pub isAliveCode : Code → Bool
-isAliveCode User = false
-isAliveCode Alive = true
-isAliveCode System = false
-isAliveCode Neither = false
+abbrev pub is_alive_code : Code → Bool
+is_alive_code User = false
+is_alive_code Alive = true
+is_alive_code System = false
+is_alive_code Neither = false
 
-abbrev pub isAlive : ℕ → Bool
-isAlive n = isAliveCode (code_of n)
+abbrev pub is_alive : ℕ → Bool
+is_alive n = is_alive_code (code_of n)
 
 -- "MODE … (0 = Online mode, 1 = Test mode)"
-abbrev pub isMode : ℕ → Bool
-isMode m = leb m 1
+abbrev pub is_mode : ℕ → Bool
+is_mode m = leb m 1
 
 -- "PRI is 0 to 7"
-abbrev pub isPri : ℕ → Bool
-isPri p = leb p 7
+abbrev pub is_pri : ℕ → Bool
+is_pri p = leb p 7
 
 -- "Data field numbers (1 to 255) and node numbers (1 to 4,095)"
-abbrev pub isDataField : ℕ → Bool
-isDataField = within 1 255
+abbrev pub is_data_field : ℕ → Bool
+is_data_field = within 1 255
 
-abbrev pub isNode : ℕ → Bool
-isNode = within 1 4095
+abbrev pub is_node : ℕ → Bool
+is_node = within 1 4095

@@ -24,9 +24,9 @@ abbrev pub spans : Slot → ℕ → Bool
 spans r i = leb r.start i && ltb i (end r)
 
 -- The octet at place i: that of the slot that spans i, and z where none does.
-unfoldable pub octetOf : List Slot → ℕ → ℕ → ℕ
-octetOf [] z i = z
-octetOf (r ∷ rs) z i = cond (spans r i) (octet (octets r.size r.value) (i - r.start)) (octetOf rs z i)
+unfoldable pub octet_of : List Slot → ℕ → ℕ → ℕ
+octet_of [] z i = z
+octet_of (r ∷ rs) z i = cond (spans r i) (octet (octets r.size r.value) (i - r.start)) (octet_of rs z i)
 
 unfoldable pub tabulate : ℕ → (ℕ → ℕ) → List ℕ
 tabulate zero f = []
@@ -34,24 +34,24 @@ tabulate (suc n) f = tabulate n f ++ (f n ∷ [])
 
 -- The n octets that the slots make up.
 unfoldable pub layout : ℕ → List Slot → List ℕ
-layout n rs = tabulate n (octetOf rs 0)
+layout n rs = tabulate n (octet_of rs 0)
 
 -- ---- tests that are computed over a whole table
 
 -- No slot of the list shares an octet with r.
-unfoldable pub apartFrom : Slot → List Slot → Bool
-apartFrom r [] = true
-apartFrom r (q ∷ qs) = (leb (end r) q.start || leb (end q) r.start) && apartFrom r qs
+unfoldable pub apart_from : Slot → List Slot → Bool
+apart_from r [] = true
+apart_from r (q ∷ qs) = (leb (end r) q.start || leb (end q) r.start) && apart_from r qs
 
 -- No two slots overlap.
 unfoldable pub apart : List Slot → Bool
 apart [] = true
-apart (r ∷ rs) = apartFrom r rs && apart rs
+apart (r ∷ rs) = apart_from r rs && apart rs
 
 -- Each slot ends by n.
-unfoldable pub endsBy : ℕ → List Slot → Bool
-endsBy n [] = true
-endsBy n (r ∷ rs) = leb (end r) n && endsBy n rs
+unfoldable pub ends_by : ℕ → List Slot → Bool
+ends_by n [] = true
+ends_by n (r ∷ rs) = leb (end r) n && ends_by n rs
 
 unfoldable pub spanned : List Slot → ℕ → Bool
 spanned [] i = false

@@ -4,7 +4,7 @@ use Rattle.std.specs.Prelude.{List, [], ◌∷◌, ◌++◌, ℕ, ◌+◌, ◌-�
 use Rattle.octets.specs.Number.{octets}
 use Rattle.header.specs.declared.Head.{Head}
 use Rattle.octets.specs.NumberLaws.{Octets}
-use Rattle.header.specs.Head.{header, head_of, headed, isFixed}
+use Rattle.header.specs.Head.{header, head_of, headed, is_fixed}
 
 -- ---- Table 7, for any values
 
@@ -12,16 +12,16 @@ use Rattle.header.specs.Head.{header, head_of, headed, isFixed}
 -- future uses", "Protocol version (Fixed to 1)", and the others as given; SA as domain, data field and node.
 unfoldable pub table7 : Head → List ℕ
 table7 h =
-    octets 4 0x4e55584d  -- hType
+    octets 4 0x4e55584d  -- h_type
     ++ octets 4 h.cut.ml  -- ml
     ++ octets 1 0  -- domain
-    ++ octets 1 h.given.field.0  -- dataField
+    ++ octets 1 h.given.field.0  -- data_field
     ++ octets 2 h.given.node.0  -- node
     ++ octets 4 h.given.da  -- da
-    ++ octets 4 h.given.version.0  -- vSeq
+    ++ octets 4 h.given.version.0  -- v_seq
     ++ octets 4 h.given.number.0  -- seq
-    ++ octets 4 h.given.mctl  -- mCtl
-    ++ octets 12 0  -- inqId
+    ++ octets 4 h.given.mctl  -- m_ctl
+    ++ octets 12 0  -- inq_id
     ++ octets 2 h.given.tcd  -- tcd
     ++ octets 2 0  -- ver
     ++ octets 8 0  -- gtid
@@ -37,8 +37,8 @@ table7 h =
 
 -- E.3.2: "ml = 128, sa = 0x00010002, da = 0x00010001, v_seq = 0, seq = 1, m_ctl = 0x80000000, … tcd = 60003, … mode =
 -- 0, … pri = 1, cbn = 1, tbn = 1, bsize = ml setting value (128)", of "Data field : 1, Local node number : 2"
-abbrev pub sampleHead : Head
-sampleHead = record {
+abbrev pub sample_head : Head
+sample_head = record {
   given = record {
     field = record { 0 = 1 };
     node = record { 0 = 2 };
@@ -54,18 +54,18 @@ sampleHead = record {
 }
 
 -- and with "h_type = "NUXM", … inq_id = 0, … ver = 0, gtid = 0, … pver = 1, … fu1 = 0", its octets.
-unfoldable pub sampleOctets : List ℕ
-sampleOctets =
-    0x4e ∷ 0x55 ∷ 0x58 ∷ 0x4d  -- hType
+unfoldable pub sample_octets : List ℕ
+sample_octets =
+    0x4e ∷ 0x55 ∷ 0x58 ∷ 0x4d  -- h_type
     ∷ 0x00 ∷ 0x00 ∷ 0x00 ∷ 0x80  -- ml
     ∷ 0x00  -- domain
-    ∷ 0x01  -- dataField
+    ∷ 0x01  -- data_field
     ∷ 0x00 ∷ 0x02  -- node
     ∷ 0x00 ∷ 0x01 ∷ 0x00 ∷ 0x01  -- da
-    ∷ 0x00 ∷ 0x00 ∷ 0x00 ∷ 0x00  -- vSeq
+    ∷ 0x00 ∷ 0x00 ∷ 0x00 ∷ 0x00  -- v_seq
     ∷ 0x00 ∷ 0x00 ∷ 0x00 ∷ 0x01  -- seq
-    ∷ 0x80 ∷ 0x00 ∷ 0x00 ∷ 0x00  -- mCtl
-    ∷ 0x00 ∷ 0x00 ∷ 0x00 ∷ 0x00 ∷ 0x00 ∷ 0x00 ∷ 0x00 ∷ 0x00 ∷ 0x00 ∷ 0x00 ∷ 0x00 ∷ 0x00  -- inqId
+    ∷ 0x80 ∷ 0x00 ∷ 0x00 ∷ 0x00  -- m_ctl
+    ∷ 0x00 ∷ 0x00 ∷ 0x00 ∷ 0x00 ∷ 0x00 ∷ 0x00 ∷ 0x00 ∷ 0x00 ∷ 0x00 ∷ 0x00 ∷ 0x00 ∷ 0x00  -- inq_id
     ∷ 0xea ∷ 0x63  -- tcd
     ∷ 0x00 ∷ 0x00  -- ver
     ∷ 0x00 ∷ 0x00 ∷ 0x00 ∷ 0x00 ∷ 0x00 ∷ 0x00 ∷ 0x00 ∷ 0x00  -- gtid
@@ -80,8 +80,8 @@ sampleOctets =
 
 -- Figure 54, the third of "Fragmented into four packets": "SEQ 100, CBN/TBN 3/4, BSIZE 1396, ML 4564", with node 7 and
 -- V_SEQ 5 of 01's listing. The caller's other values are chosen so that no two fields of one size hold the same.
-abbrev pub figureHead : Head
-figureHead = record {
+abbrev pub figure_head : Head
+figure_head = record {
   given = record {
     field = record { 0 = 2 };
     node = record { 0 = 7 };
@@ -96,18 +96,18 @@ figureHead = record {
   cut = record { ml = 4564; bsize = 1396; cbn = 3; tbn = 4 };
 }
 
-unfoldable pub figureOctets : List ℕ
-figureOctets =
-    0x4e ∷ 0x55 ∷ 0x58 ∷ 0x4d  -- hType
+unfoldable pub figure_octets : List ℕ
+figure_octets =
+    0x4e ∷ 0x55 ∷ 0x58 ∷ 0x4d  -- h_type
     ∷ 0x00 ∷ 0x00 ∷ 0x11 ∷ 0xd4  -- ml
     ∷ 0x00  -- domain
-    ∷ 0x02  -- dataField
+    ∷ 0x02  -- data_field
     ∷ 0x00 ∷ 0x07  -- node
     ∷ 0x00 ∷ 0x01 ∷ 0x00 ∷ 0x02  -- da
-    ∷ 0x00 ∷ 0x00 ∷ 0x00 ∷ 0x05  -- vSeq
+    ∷ 0x00 ∷ 0x00 ∷ 0x00 ∷ 0x05  -- v_seq
     ∷ 0x00 ∷ 0x00 ∷ 0x00 ∷ 0x64  -- seq
-    ∷ 0x80 ∷ 0x00 ∷ 0x00 ∷ 0x00  -- mCtl
-    ∷ 0x00 ∷ 0x00 ∷ 0x00 ∷ 0x00 ∷ 0x00 ∷ 0x00 ∷ 0x00 ∷ 0x00 ∷ 0x00 ∷ 0x00 ∷ 0x00 ∷ 0x00  -- inqId
+    ∷ 0x80 ∷ 0x00 ∷ 0x00 ∷ 0x00  -- m_ctl
+    ∷ 0x00 ∷ 0x00 ∷ 0x00 ∷ 0x00 ∷ 0x00 ∷ 0x00 ∷ 0x00 ∷ 0x00 ∷ 0x00 ∷ 0x00 ∷ 0x00 ∷ 0x00  -- inq_id
     ∷ 0xea ∷ 0x5f  -- tcd
     ∷ 0x00 ∷ 0x00  -- ver
     ∷ 0x00 ∷ 0x00 ∷ 0x00 ∷ 0x00 ∷ 0x00 ∷ 0x00 ∷ 0x00 ∷ 0x00  -- gtid
@@ -125,7 +125,7 @@ figureOctets =
 -- Each number within its size in Table 7, of 4, 2 or 1 octets.
 pub record Sized (h : Head) : Type 0 where
   pub ml : h.cut.ml < 2 ^ 32
-  pub data-field : h.given.field.0 < 2 ^ 8
+  pub data_field_octet : h.given.field.0 < 2 ^ 8
   pub node : h.given.node.0 < 2 ^ 16
   pub da : h.given.da < 2 ^ 32
   pub version : h.given.version.0 < 2 ^ 32
@@ -146,9 +146,9 @@ pub record HeaderAsPrinted : Type 0 where
   pub short : (h : Head) (s : List ℕ) → length s < 64 → headed s h ≡ s
   -- What was written reads back, whatever stands behind it, and what Table 7 fixes is found there;
   pub read : (h : Head) → Sized h → (t : List ℕ) → head_of (table7 h ++ t) ≡ h
-  pub fixed : (h : Head) (t : List ℕ) → isFixed (table7 h ++ t) ≡ true
+  pub fixed : (h : Head) (t : List ℕ) → is_fixed (table7 h ++ t) ≡ true
   -- and wherever it is found, the octets are Table 7's for what is read.
-  pub only : (s : List ℕ) → Octets s → 64 ≤ length s → isFixed s ≡ true → take 64 s ≡ table7 (head_of s)
+  pub only : (s : List ℕ) → Octets s → 64 ≤ length s → is_fixed s ≡ true → take 64 s ≡ table7 (head_of s)
   -- The sample of E.3.2, and the third PDU of Figure 54.
-  pub sample : (header sampleHead ≡ sampleOctets) × (head_of sampleOctets ≡ sampleHead)
-  pub figure : (header figureHead ≡ figureOctets) × (head_of figureOctets ≡ figureHead)
+  pub sample : (header sample_head ≡ sample_octets) × (head_of sample_octets ≡ sample_head)
+  pub figure : (header figure_head ≡ figure_octets) × (head_of figure_octets ≡ figure_head)

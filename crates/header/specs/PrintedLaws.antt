@@ -4,51 +4,51 @@ use Rattle.std.specs.Prelude.{◌≡◌, refl, ℕ, ◌+◌, ◌-◌, ◌^◌, �
 use Rattle.std.proofs.Common.{sym, ap, ◌∙◌, arith}
 use Rattle.octets.specs.Number.{number, octets}
 use Rattle.header.specs.declared.Head.{Head}
-use Rattle.header.specs.Layout.{layout, tabulate, octetOf}
-use Rattle.header.specs.Head.{header, head_of, value, headed, isFixed}
-use Rattle.header.specs.Printed.{table7, sampleHead, sampleOctets, figureHead, figureOctets, Sized, HeaderAsPrinted}
+use Rattle.header.specs.Layout.{layout, tabulate, octet_of}
+use Rattle.header.specs.Head.{header, head_of, value, headed, is_fixed}
+use Rattle.header.specs.Printed.{table7, sample_head, sample_octets, figure_head, figure_octets, Sized, HeaderAsPrinted}
 use Rattle.std.proofs.lemmas.Bool.{lt-leb}
 use Rattle.octets.specs.Run.{laid}
-use Rattle.header.specs.HeadLaws.{Fits, length-header, read_back, written-fixed, fixed-read, headed-fits}
-use Rattle.header.specs.Places.{Field, place, headerSize}
-use Rattle.header.specs.Places.Field.{hType, ml, domain, dataField, node, da, vSeq, seq, mCtl, inqId, tcd, ver, gtid, mode, pver, pri, cbn, tbn, bsize, fui}
+use Rattle.header.specs.HeadLaws.{Fits, length_header, read_back, written_fixed, fixed_read, headed_fits}
+use Rattle.header.specs.Places.{Field, place, header_size}
+use Rattle.header.specs.Places.Field.{h_type, ml, domain, data_field, node, da, v_seq, seq, m_ctl, inq_id, tcd, ver, gtid, mode, pver, pri, cbn, tbn, bsize, fui}
 
-pub header-printed : (h : Head) → header h ≡ table7 h
-unfolding header layout tabulate octetOf octets table7
-header-printed h = refl
+pub header_printed : (h : Head) → header h ≡ table7 h
+unfolding header layout tabulate octet_of octets table7
+header_printed h = refl
 
-pub sample-written : header sampleHead ≡ sampleOctets
-unfolding header layout tabulate octetOf octets sampleOctets
-sample-written = refl
+pub sample_written : header sample_head ≡ sample_octets
+unfolding header layout tabulate octet_of octets sample_octets
+sample_written = refl
 
-pub sample-read : head_of sampleOctets ≡ sampleHead
-unfolding head_of number sampleOctets
-sample-read = refl
+pub sample_read : head_of sample_octets ≡ sample_head
+unfolding head_of number sample_octets
+sample_read = refl
 
-pub figure-written : header figureHead ≡ figureOctets
-unfolding header layout tabulate octetOf octets figureOctets
-figure-written = refl
+pub figure_written : header figure_head ≡ figure_octets
+unfolding header layout tabulate octet_of octets figure_octets
+figure_written = refl
 
-pub figure-read : head_of figureOctets ≡ figureHead
-unfolding head_of number figureOctets
-figure-read = refl
+pub figure_read : head_of figure_octets ≡ figure_head
+unfolding head_of number figure_octets
+figure_read = refl
 
 -- ---- the header
 
-sized-fits : (h : Head) → Sized h → Fits h
-sized-fits h s = record { each = fit }
+sized_fits : (h : Head) → Sized h → Fits h
+sized_fits h s = record { each = fit }
   where
     fit : (f : Field) → value h f < 256 ^ (place f).1
-    fit hType = omega arith
+    fit h_type = omega arith
     fit ml = s.ml
     fit domain = omega arith
-    fit dataField = s.data-field
+    fit data_field = s.data_field_octet
     fit node = s.node
     fit da = s.da
-    fit vSeq = s.version
+    fit v_seq = s.version
     fit seq = s.number
-    fit mCtl = s.mctl
-    fit inqId = omega arith
+    fit m_ctl = s.mctl
+    fit inq_id = omega arith
     fit tcd = s.tcd
     fit ver = omega arith
     fit gtid = omega arith
@@ -60,16 +60,16 @@ sized-fits h s = record { each = fit }
     fit bsize = s.bsize
     fit fui = omega arith
 
-pub header-as-printed : HeaderAsPrinted
+pub header_as_printed : HeaderAsPrinted
 unfolding headed
-header-as-printed = record {
-  size = λ h. ap length (sym (header-printed h)) ∙ length-header h;
-  written = header-printed;
-  laid = λ h s room. headed-fits s h room ∙ ap (λ (l : List ℕ). l ++ drop 64 s) (header-printed h);
-  short = λ h s less. rw (lt-leb headerSize (length s) less);
-  read = λ h s t. ap (λ (l : List ℕ). head_of (l ++ t)) (sym (header-printed h)) ∙ read_back h t (sized-fits h s);
-  fixed = λ h t. ap (λ (l : List ℕ). isFixed (l ++ t)) (sym (header-printed h)) ∙ written-fixed h t;
-  only = λ s o room e. fixed-read s o room e ∙ header-printed (head_of s);
-  sample = (sample-written, sample-read);
-  figure = (figure-written, figure-read);
+header_as_printed = record {
+  size = λ h. ap length (sym (header_printed h)) ∙ length_header h;
+  written = header_printed;
+  laid = λ h s room. headed_fits s h room ∙ ap (λ (l : List ℕ). l ++ drop 64 s) (header_printed h);
+  short = λ h s less. rw (lt-leb header_size (length s) less);
+  read = λ h s t. ap (λ (l : List ℕ). head_of (l ++ t)) (sym (header_printed h)) ∙ read_back h t (sized_fits h s);
+  fixed = λ h t. ap (λ (l : List ℕ). is_fixed (l ++ t)) (sym (header_printed h)) ∙ written_fixed h t;
+  only = λ s o room e. fixed_read s o room e ∙ header_printed (head_of s);
+  sample = (sample_written, sample_read);
+  figure = (figure_written, figure_read);
 }

@@ -1,6 +1,6 @@
 // The numbers that 01 admits in a header's fields.
 ghost use Rattle.std.specs.Prelude.{◌≡◌};
-ghost use Rattle.header.specs.Codes.{code_of, isUserCode, isAliveCode, isMode, isPri, isDataField, isNode};
+ghost use Rattle.header.specs.Codes.{code_of, is_user_code, is_alive_code, is_mode, is_pri, is_data_field, is_node};
 
 // Whose a transaction code is.
 #[derive(Drop)]
@@ -14,7 +14,7 @@ pub enum Code {
 impl Code {
     // Messages carry user codes only.
     pub fn is_user(self) -> bool
-        ensures { result ≡ isUserCode self }
+        ensures { result ≡ is_user_code self }
     {
         match self {
             Code::User => true,
@@ -26,7 +26,7 @@ impl Code {
 
     // Alive signals carry 60,003 only.
     pub fn is_alive(self) -> bool
-        ensures { result ≡ isAliveCode self }
+        ensures { result ≡ is_alive_code self }
     {
         match self {
             Code::User => false,
@@ -55,13 +55,13 @@ pub fn code_of(tcd: u16) -> Code
 }
 
 pub fn is_mode(mode: u16) -> bool
-    ensures { result ≡ isMode mode }
+    ensures { result ≡ is_mode mode }
 {
     mode <= 1
 }
 
 pub fn is_pri(pri: u8) -> bool
-    ensures { result ≡ isPri pri }
+    ensures { result ≡ is_pri pri }
 {
     pri <= 7
 }
@@ -78,7 +78,7 @@ pub struct Node(pub u16);
 
 impl DataField {
     pub fn within(self) -> bool
-        ensures { result ≡ isDataField self.0 }
+        ensures { result ≡ is_data_field self.0 }
     {
         (1 <= self.0) & (self.0 <= 255)
     }
@@ -86,7 +86,7 @@ impl DataField {
 
 impl Node {
     pub fn within(self) -> bool
-        ensures { result ≡ isNode self.0 }
+        ensures { result ≡ is_node self.0 }
     {
         (1 <= self.0) & (self.0 <= 4_095)
     }

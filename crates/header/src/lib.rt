@@ -3,9 +3,9 @@
 // Every function is total. An octet past the end of a packet reads as 0, and a buffer that is shorter than a header
 // stays as it is. Which values are admitted is said in `codes`; reading and writing take any.
 ghost use Rattle.std.specs.Prelude.{◌≡◌, eqb};
-ghost use Rattle.header.specs.Head.{value_at, given_of, cut_of, head_of, headed, isFixed, lengthOutside, commonWithin};
-ghost use Rattle.header.specs.Places.Field.{inqId};
-ghost use Rattle.header.specs.private.Filled.{fill, frontSlots, middleSlots, backSlots};
+ghost use Rattle.header.specs.Head.{value_at, given_of, cut_of, head_of, headed, is_fixed, length_outside, common_within};
+ghost use Rattle.header.specs.Places.Field.{inq_id};
+ghost use Rattle.header.specs.private.Filled.{fill, front_slots, middle_slots, back_slots};
 
 pub mod codes;
 pub mod places;
@@ -95,7 +95,7 @@ pub fn read_bsize(packet: &[u8]) -> u16
 
 // Whether every field that Table 7 fixes holds what it fixes.
 pub fn is_fixed(packet: &[u8]) -> bool
-    ensures { result ≡ isFixed packet.now }
+    ensures { result ≡ is_fixed packet.now }
 {
     (read4(packet, places::H_TYPE) == NUXM)
         & (read1(packet, places::DOMAIN) == 0)
@@ -108,7 +108,7 @@ pub fn is_fixed(packet: &[u8]) -> bool
 
 // INQ_ID has 12 octets, more than the widest number.
 fn no_inquiry(packet: &[u8]) -> bool
-    ensures { result ≡ eqb (value_at packet.now inqId) 0 }
+    ensures { result ≡ eqb (value_at packet.now inq_id) 0 }
 {
     (read8(packet, places::INQ_ID) == 0) & (read4(packet, places::INQ_ID + 8) == 0)
 }
@@ -117,7 +117,7 @@ fn no_inquiry(packet: &[u8]) -> bool
 
 // Whether a PDU of k octets is too short, too long, or of another length than its BSIZE.
 pub fn length_outside(least: usize, most: usize, k: usize, h: Head) -> bool
-    ensures { result ≡ lengthOutside least most k h }
+    ensures { result ≡ length_outside least most k h }
 {
     let cut = h.cut;
     (k < least) | (most < k) | (k != cut.bsize as usize)
@@ -125,7 +125,7 @@ pub fn length_outside(least: usize, most: usize, k: usize, h: Head) -> bool
 
 // The fixed fields, PRI and MODE.
 pub fn common_within(packet: &[u8], h: Head) -> bool
-    ensures { result ≡ commonWithin packet.now h }
+    ensures { result ≡ common_within packet.now h }
 {
     let given = h.given;
     is_fixed(packet) & is_pri(given.pri) & is_mode(given.mode)
@@ -147,7 +147,7 @@ pub fn write_head(buffer: &mut [u8], h: Head)
 }
 
 fn write_front(buffer: &mut [u8], h: Head)
-    ensures { buffer.new ≡ fill (frontSlots h) buffer.old }
+    ensures { buffer.new ≡ fill (front_slots h) buffer.old }
 {
     write4(buffer, places::H_TYPE, NUXM);
     write4(buffer, places::ML, h.cut.ml);
@@ -158,7 +158,7 @@ fn write_front(buffer: &mut [u8], h: Head)
 }
 
 fn write_middle(buffer: &mut [u8], h: Head)
-    ensures { buffer.new ≡ fill (middleSlots h) buffer.old }
+    ensures { buffer.new ≡ fill (middle_slots h) buffer.old }
 {
     write4(buffer, places::V_SEQ, h.given.version.0);
     write4(buffer, places::SEQ, h.given.number.0);
@@ -170,7 +170,7 @@ fn write_middle(buffer: &mut [u8], h: Head)
 }
 
 fn write_back(buffer: &mut [u8], h: Head)
-    ensures { buffer.new ≡ fill (backSlots h) buffer.old }
+    ensures { buffer.new ≡ fill (back_slots h) buffer.old }
 {
     write2(buffer, places::MODE, h.given.mode);
     write1(buffer, places::PVER, 1);

@@ -1,7 +1,7 @@
 // The map of pieces held, a word of 64 bits: piece c at bit c - 1, bit 0 lowest.
 ghost use Rattle.std.specs.Prelude.{◌≡◌, not, ◌||◌, ◌+◌, ◌-◌, ◌^◌, ◌≤◌, ◌<◌, eqb};
 ghost use Rattle.std.specs.Int.Count.{ones};
-ghost use Rattle.map.specs.Map.{mostPieces, bit, holds as holds_of, fullMap, is_empty, isFull, markedPast, marked as markedOf, lowestMissing};
+ghost use Rattle.map.specs.Map.{most_pieces, bit, holds as holds_of, full_map, is_empty, is_full, marked_past, marked as marked_of, lowest_missing};
 
 // The bits of a word, and so the most pieces of a message.
 pub const MOST_PIECES: u8 = 64;
@@ -23,7 +23,7 @@ fn shift_of(c: u8) -> u8
 }
 
 fn bit_of(map: u64, k: u8) -> bool
-    requires { k < mostPieces }
+    requires { k < most_pieces }
     ensures { result ≡ eqb (bit k map) 1 }
 {
     (map >> k) & 1 == 1
@@ -31,7 +31,7 @@ fn bit_of(map: u64, k: u8) -> bool
 
 // The map with piece c as well, c 1 to 64.
 pub fn marked(map: u64, c: u8) -> u64
-    ensures { result ≡ markedOf map c }
+    ensures { result ≡ marked_of map c }
 {
     if MOST_PIECES < c {
         return map;
@@ -43,7 +43,7 @@ pub fn marked(map: u64, c: u8) -> u64
 }
 
 fn set_bit(map: u64, k: u8) -> u64
-    requires { (k < mostPieces) × (bit k map ≡ 0) }
+    requires { (k < most_pieces) × (bit k map ≡ 0) }
     ensures { result ≡ map + 2 ^ k }
 {
     map | (1u64 << k)
@@ -51,7 +51,7 @@ fn set_bit(map: u64, k: u8) -> u64
 
 // Whether the map holds all of t pieces, and none past them.
 pub fn is_full(map: u64, t: u8) -> bool
-    ensures { result ≡ isFull map t }
+    ensures { result ≡ is_full map t }
 {
     if MOST_PIECES < t {
         return false;
@@ -61,7 +61,7 @@ pub fn is_full(map: u64, t: u8) -> bool
 
 // Whether it is neither empty nor full nor marked past t.
 pub fn is_partial(map: u64, t: u8) -> bool
-    ensures { result ≡ not (is_empty map || isFull map t || markedPast map t) }
+    ensures { result ≡ not (is_empty map || is_full map t || marked_past map t) }
 {
     if MOST_PIECES < t {
         return 0 < map;
@@ -70,8 +70,8 @@ pub fn is_partial(map: u64, t: u8) -> bool
 }
 
 fn full(t: u8) -> u64
-    requires { t ≤ mostPieces }
-    ensures { result ≡ fullMap t }
+    requires { t ≤ most_pieces }
+    ensures { result ≡ full_map t }
 {
     if t == 0 {
         return 0;
@@ -88,7 +88,7 @@ pub fn held(map: u64) -> u32
 
 // The lowest missing piece: one more than the trailing ones.
 pub fn lowest_missing(map: u64) -> u32
-    ensures { result ≡ lowestMissing map }
+    ensures { result ≡ lowest_missing map }
 {
     u64::trailing_zeros(!map) + 1
 }

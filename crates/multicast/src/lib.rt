@@ -7,7 +7,7 @@ ghost use Rattle.std.specs.Prelude.{◌≡◌, [], ◌∷◌, leb, get_or, set a
 ghost use Rattle.answers.specs.declared.Outcome.TheVariants.{Refused};
 ghost use Rattle.groups.specs.Groups.{place_of};
 ghost use Rattle.rules.specs.calls.First.{row, first};
-ghost use Rattle.rules.specs.calls.Multicast.{entriesOf, entryPlace, tablesWithin, onePiece, placeFor, verdictIn, earlyCastRows, castOutcome, isKept, castTables, handedBy, multicastAnswer, multicastTables};
+ghost use Rattle.rules.specs.calls.Multicast.{entries_of, entry_place, tables_within, one_piece, place_for, verdict_in, early_cast_rows, cast_outcome, is_kept, cast_tables, handed_by, multicast_answer, multicast_tables};
 ghost use Rattle.multicast.specs.Lent.{tables};
 
 use answers::{GroupAnswer, Listener, Outcome, Where};
@@ -30,9 +30,9 @@ pub fn multicast(
     group: Group,
     packet: &[u8],
 ) -> GroupAnswer
-    ensures answer { result ≡ multicastAnswer state (tables versions.old numbers.old) group.0 packet.now }
-    ensures versions { versions.new ≡ (multicastTables state (tables versions.old numbers.old) group.0 packet.now).versions }
-    ensures numbers { numbers.new ≡ (multicastTables state (tables versions.old numbers.old) group.0 packet.now).numbers }
+    ensures answer { result ≡ multicast_answer state (tables versions.old numbers.old) group.0 packet.now }
+    ensures versions { versions.new ≡ (multicast_tables state (tables versions.old numbers.old) group.0 packet.now).versions }
+    ensures numbers { numbers.new ≡ (multicast_tables state (tables versions.old numbers.old) group.0 packet.now).numbers }
 {
     let h = read_head(packet);
     let look = state.look(Address::of(h));
@@ -61,9 +61,9 @@ pub fn take(
     packet: &[u8],
     h: Head,
 ) -> Outcome
-    ensures answer { result ≡ castOutcome s (tables versions.old numbers.old) group.0 packet.now h }
-    ensures versions { versions.new ≡ (castTables s (tables versions.old numbers.old) group.0 packet.now h).versions }
-    ensures numbers { numbers.new ≡ (castTables s (tables versions.old numbers.old) group.0 packet.now h).numbers }
+    ensures answer { result ≡ cast_outcome s (tables versions.old numbers.old) group.0 packet.now h }
+    ensures versions { versions.new ≡ (cast_tables s (tables versions.old numbers.old) group.0 packet.now h).versions }
+    ensures numbers { numbers.new ≡ (cast_tables s (tables versions.old numbers.old) group.0 packet.now h).numbers }
 {
     let outcome = outcome_of(s, versions, numbers, group, packet, h);
     if is_kept(outcome) {
@@ -77,7 +77,7 @@ pub fn take(
 
 // Where the message lies, if it was delivered: a message of one piece, behind its header.
 pub fn handed(o: Outcome) -> Where
-    ensures { result ≡ handedBy o }
+    ensures { result ≡ handed_by o }
 {
     match o {
         Outcome::Refused { number: _, age: _ } => Where::Nothing,
@@ -97,7 +97,7 @@ fn outcome_of(
     packet: &[u8],
     h: Head,
 ) -> Outcome
-    ensures { result ≡ castOutcome s (tables versions.now numbers.now) group.0 packet.now h }
+    ensures { result ≡ cast_outcome s (tables versions.now numbers.now) group.0 packet.now h }
 {
     let early = early_number(s, versions, numbers, group, packet, h);
     if early != 0 {
@@ -137,7 +137,7 @@ fn early_number(
     packet: &[u8],
     h: Head,
 ) -> u8
-    ensures { result ≡ first (earlyCastRows s (tables versions.now numbers.now) group.0 packet.now h) }
+    ensures { result ≡ first (early_cast_rows s (tables versions.now numbers.now) group.0 packet.now h) }
 {
     let groups = s.groups;
     if !s.valid {
@@ -170,7 +170,7 @@ fn group_number(groups: Groups, group: Group) -> u8
 }
 
 fn entries(senders: u8, groups: u8) -> usize
-    ensures { result ≡ entriesOf senders groups }
+    ensures { result ≡ entries_of senders groups }
 {
     (senders as usize) * (groups as usize) * PRIORITIES
 }
@@ -178,7 +178,7 @@ fn entries(senders: u8, groups: u8) -> usize
 // Whether both tables have as many entries as they should, each within the limits of a last number. All are looked at,
 // whatever the first says: so several are compared at once.
 fn tables_within(versions: &[u32], numbers: &[u32], entries: usize) -> bool
-    ensures { result ≡ tablesWithin entries (tables versions.now numbers.now) }
+    ensures { result ≡ tables_within entries (tables versions.now numbers.now) }
 {
     if versions.len() != entries {
         return false;
@@ -200,8 +200,8 @@ fn tables_within(versions: &[u32], numbers: &[u32], entries: usize) -> bool
 }
 
 // CBN = TBN = 1, and p = n.
-fn one_piece(cut: Cut) -> bool
-    ensures { result ≡ onePiece cut }
+fn one_piece_lem(cut: Cut) -> bool
+    ensures { result ≡ one_piece cut }
 {
     (cut.cbn == 1) & (cut.tbn == 1) & (cut.bsize as u32 == cut.ml)
 }
@@ -210,7 +210,7 @@ fn one_piece(cut: Cut) -> bool
 
 // The place of the packet's sender, group and priority.
 fn place_for(s: Listener, group: Group, h: Head) -> usize
-    ensures { result ≡ placeFor s group.0 h }
+    ensures { result ≡ place_for s group.0 h }
 {
     let groups = s.groups;
     let given = h.given;
@@ -218,14 +218,14 @@ fn place_for(s: Listener, group: Group, h: Head) -> usize
 }
 
 fn entry_place(groups: u8, sender: u8, group: u8, pri: u8) -> usize
-    ensures { result ≡ entryPlace groups sender group pri }
+    ensures { result ≡ entry_place groups sender group pri }
 {
     ((sender as usize) * (groups as usize) + (group as usize)) * PRIORITIES + (pri as usize)
 }
 
 // What the number check says.
 fn verdict_in(s: Listener, versions: &[u32], numbers: &[u32], group: Group, h: Head) -> Verdict
-    ensures { result ≡ verdictIn s (tables versions.now numbers.now) group.0 h }
+    ensures { result ≡ verdict_in s (tables versions.now numbers.now) group.0 h }
 {
     let place = place_for(s, group, h);
     let given = h.given;
@@ -236,7 +236,7 @@ fn verdict_in(s: Listener, versions: &[u32], numbers: &[u32], group: Group, h: H
 
 // Whether it is a delivery, and not unchecked.
 fn is_kept(o: Outcome) -> bool
-    ensures { result ≡ isKept o }
+    ensures { result ≡ is_kept o }
 {
     match o {
         Outcome::Refused { number: _, age: _ } => false,

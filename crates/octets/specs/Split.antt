@@ -4,31 +4,31 @@ use Rattle.std.proofs.Common.{sym, ◌∙◌, inl, inr, ltb-true, ltb-false, eqb
 use Rattle.std.proofs.lemmas.Bool.{false≢true, eqb-false}
 use Rattle.std.proofs.lemmas.List.{length-map}
 
-pub lt-or-le : (a b : ℕ) → (a < b) ⊎ (b ≤ a)
-lt-or-le a b = by (ltb a b) refl
+pub lt_or_le : (a b : ℕ) → (a < b) ⊎ (b ≤ a)
+lt_or_le a b = by (ltb a b) refl
   where
     by : (t : Bool) → ltb a b ≡ t → (a < b) ⊎ (b ≤ a)
     by true e = inl (ltb-true a b e)
     by false e = inr (ltb-false a b e)
 
-pub eq-or-ne : (a b : ℕ) → (a ≡ b) ⊎ (a ≢ b)
-eq-or-ne a b = by (eqb a b) refl
+pub eq_or_ne : (a b : ℕ) → (a ≡ b) ⊎ (a ≢ b)
+eq_or_ne a b = by (eqb a b) refl
   where
     by : (t : Bool) → eqb a b ≡ t → (a ≡ b) ⊎ (a ≢ b)
     by true e = inl (eqb-true a b e)
     by false e = inr (eqb-false a b e)
 
-pub true-or-false : (b : Bool) → (b ≡ true) ⊎ (b ≡ false)
-true-or-false true = inl refl
-true-or-false false = inr refl
+pub true_or_false : (b : Bool) → (b ≡ true) ⊎ (b ≡ false)
+true_or_false true = inl refl
+true_or_false false = inr refl
 
 pub never_both : {b : Bool} → b ≡ true → b ≡ false → ⊥
 never_both e f = false≢true (sym f ∙ e)
 
 -- What holds of both arms holds of the branch.
-pub cond-case {ℓ κ} : {A : Type ℓ} (P : A → Type κ) (b : Bool) (x y : A) → (b ≡ true → P x) → (b ≡ false → P y) → P (cond b x y)
-cond-case P true x y f g = f refl
-cond-case P false x y f g = g refl
+pub cond_case {ℓ κ} : {A : Type ℓ} (P : A → Type κ) (b : Bool) (x y : A) → (b ≡ true → P x) → (b ≡ false → P y) → P (cond b x y)
+cond_case P true x y f g = f refl
+cond_case P false x y f g = g refl
 
 -- Two tests that hold of the same are one.
 pub same_test : (a b : Bool) → (a ≡ true → b ≡ true) → (b ≡ true → a ≡ true) → a ≡ b
@@ -59,11 +59,11 @@ pub either : (a b : Bool) → a || b ≡ true → (a ≡ true) ⊎ (b ≡ true)
 either true b e = inl refl
 either false b e = inr e
 
-pub not-both : (a b : Bool) → (a ≡ true → b ≡ true → ⊥) → a && b ≡ false
-not-both true true f = absurd (f refl refl)
-not-both true false f = refl
-not-both false b f = refl
+pub not_both : (a b : Bool) → (a ≡ true → b ≡ true → ⊥) → a && b ≡ false
+not_both true true f = absurd (f refl refl)
+not_both true false f = refl
+not_both false b f = refl
 
 -- What owning an array of structs tells is the length of a `map` over it.
-pub mapped-length : (A B : Type 0) (f : A → B) (l : List A) (n : ℕ) → length (map f l) ≡ n → length l ≡ n
-mapped-length A B f l n e = sym (length-map l f) ∙ e
+pub mapped_length : (A B : Type 0) (f : A → B) (l : List A) (n : ℕ) → length (map f l) ≡ n → length l ≡ n
+mapped_length A B f l n e = sym (length-map l f) ∙ e

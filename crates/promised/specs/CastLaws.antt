@@ -5,36 +5,36 @@ use Rattle.std.proofs.Common.{ap, ◌∙◌, arith, le-leb, leb-false, ne_eqb}
 use Rattle.std.proofs.Math.Logic.{⊎_elim}
 use Rattle.std.proofs.Math.Bool.{true, false, cond}
 use Rattle.std.proofs.Math.ListN.{length, drop}
-use Rattle.octets.specs.Split.{lt-or-le}
+use Rattle.octets.specs.Split.{lt_or_le}
 use Rattle.ring.specs.declared.Verdict.{Verdict}
-use Rattle.ring.specs.Check.{isUnchecked}
+use Rattle.ring.specs.Check.{is_unchecked}
 use Rattle.header.specs.declared.Head.{Head}
 use Rattle.header.specs.Head.{head_of}
 use Rattle.groups.specs.declared.Groups.{Groups}
 use Rattle.groups.specs.Groups as groups
-use Rattle.groups.specs.GroupsLaws.{kept-place, within-few}
+use Rattle.groups.specs.GroupsLaws.{kept_place, within_few}
 use Rattle.state.specs.State.{Settings}
 use Rattle.state.specs.Table.{source, found}
-use Rattle.state.specs.WithinLaws.{valid-groups}
+use Rattle.state.specs.WithinLaws.{valid_groups}
 use Rattle.answers.specs.declared.Listener.{Listener}
 use Rattle.answers.specs.declared.Outcome.{Outcome}
 use Rattle.answers.specs.declared.Outcome.TheVariants.{Refused, Delivered}
 use Rattle.answers.specs.declared.Setup.{Setup}
-use Rattle.answers.specs.Told.{GroupTold, groupTold, deliveredAs, ageWith, groupRefused}
-use Rattle.answers.specs.ToldLaws.{age-same}
+use Rattle.answers.specs.Told.{GroupTold, group_told, delivered_as, age_with, group_refused}
+use Rattle.answers.specs.ToldLaws.{age_same}
 use Rattle.rules.specs.calls.First.{Row, first}
-use Rattle.rules.specs.calls.FirstLaws.{first-none, first-neither, numbered, without, behind-without}
-use Rattle.rules.specs.calls.Multicast.{Tables, withEntry, placeFor, verdictIn, castRows, listening, castOutcome, keptBy, handedBy, groupAnswer, multicastAnswer, multicastTables}
+use Rattle.rules.specs.calls.FirstLaws.{first_none, first_neither, numbered, without, behind_without}
+use Rattle.rules.specs.calls.Multicast.{Tables, with_entry, place_for, verdict_in, cast_rows, listening, cast_outcome, kept_by, handed_by, group_answer, multicast_answer, multicast_tables}
 use Rattle.rules.specs.calls.Part.{part_of}
-use Rattle.rules.specs.calls.SetupLaws.{setup-facts}
+use Rattle.rules.specs.calls.SetupLaws.{setup_facts}
 use Rattle.rules.specs.pasts.Past.{World}
 use Rattle.promised.specs.AgreesLaws.{Agrees}
-use Rattle.promised.specs.Judged.{hasLength, isMessage}
-use Rattle.promised.specs.JudgedLaws.{cast-length, message-head}
+use Rattle.promised.specs.Judged.{has_length, is_message}
+use Rattle.promised.specs.JudgedLaws.{cast_length, message_head}
 use Rattle.promised.specs.Log.{Exchange, name_of}
-use Rattle.promised.specs.Says.{sendersOf, groups_of, place_of, hasTables, rowsCast, entryFor, name_at, verdictAfter, castSays}
-use Rattle.promised.specs.MessageSaysLaws.{online-is}
-use Rattle.promised.specs.SaysLaws.{place_is, accepted-setup}
+use Rattle.promised.specs.Says.{senders_of, groups_of, place_of, has_tables, rows_cast, entry_for, name_at, verdict_after, cast_says}
+use Rattle.promised.specs.MessageSaysLaws.{online_is}
+use Rattle.promised.specs.SaysLaws.{place_is, accepted_setup}
 
 -- Delivered or refused, with the tables and the part.
 module _ (t : Tables) (k : ℕ) (h : Head) (packet storage : List ℕ) (v : Verdict) (number age : ℕ) where
@@ -42,22 +42,22 @@ module _ (t : Tables) (k : ℕ) (h : Head) (packet storage : List ℕ) (v : Verd
   Three = GroupTold × Tables × List ℕ
 
   abbrev made : Outcome → Three
-  made o = (groupTold (groupAnswer o), keptBy t k o h, part_of (handedBy o) packet storage)
+  made o = (group_told (group_answer o), kept_by t k o h, part_of (handed_by o) packet storage)
 
   abbrev delivered : Three
   delivered = (
-    record { outcome = deliveredAs v; lies = record { slice = 1; start = 0; length = 0 } },
-    cond (isUnchecked v) t (withEntry t k h.given.version h.given.number),
+    record { outcome = delivered_as v; lies = record { slice = 1; start = 0; length = 0 } },
+    cond (is_unchecked v) t (with_entry t k h.given.version h.given.number),
     drop 64 packet,
   )
 
-  either_way : (b : Bool) → made (cond b (Delivered v) (Refused number age)) ≡ cond b delivered (groupRefused number age, t, [])
-  unfolding keptBy
-  either_way true = by (isUnchecked v)
+  either_way : (b : Bool) → made (cond b (Delivered v) (Refused number age)) ≡ cond b delivered (group_refused number age, t, [])
+  unfolding kept_by
+  either_way true = by (is_unchecked v)
     where
       by : (u : Bool) → ◌≡◌ {A = Three}
-          (record { outcome = deliveredAs v; lies = record { slice = 1; start = 0; length = 0 } }, cond (not u) (withEntry t k h.given.version h.given.number) t, drop 64 packet)
-          (record { outcome = deliveredAs v; lies = record { slice = 1; start = 0; length = 0 } }, cond u t (withEntry t k h.given.version h.given.number), drop 64 packet)
+          (record { outcome = delivered_as v; lies = record { slice = 1; start = 0; length = 0 } }, cond (not u) (with_entry t k h.given.version h.given.number) t, drop 64 packet)
+          (record { outcome = delivered_as v; lies = record { slice = 1; start = 0; length = 0 } }, cond u t (with_entry t k h.given.version h.given.number), drop 64 packet)
       by true = refl
       by false = refl
   either_way false = refl
@@ -70,77 +70,77 @@ module _ (q : Setup) (log : List Exchange) (w : World) (a : Agrees q log w) (t :
   s = listening w.state h
 
   abbrev verdict : Verdict
-  verdict = verdictAfter q (name_at t (entryFor q g packet)) (name_of packet)
+  verdict = verdict_after q (name_at t (entry_for q g packet)) (name_of packet)
 
-  pub group-count : w.state.groups.count ≡ (groups_of q).count
-  group-count = ap (λ (x : Groups). x.count) a.groups
+  pub group_count : w.state.groups.count ≡ (groups_of q).count
+  group_count = ap (λ (x : Groups). x.count) a.groups
 
-  pub group-place : groups.place_of w.state.groups g ≡ groups.place_of (groups_of q) g
-  group-place =
-      let few = within-few w.state.groups (valid-groups w.state a.sound.is-valid) in
-      ap (λ (x : Groups). groups.place_of x g) a.groups ∙ kept-place (groups_of q) (omega (arith, few, group-count)) g
+  pub group_place : groups.place_of w.state.groups g ≡ groups.place_of (groups_of q) g
+  group_place =
+      let few = within_few w.state.groups (valid_groups w.state a.sound.is_valid) in
+      ap (λ (x : Groups). groups.place_of x g) a.groups ∙ kept_place (groups_of q) (omega (arith, few, group_count)) g
 
-  pub cast-entry : placeFor s g h ≡ entryFor q g packet
-  cast-entry = rw (group-place, group-count, place_is q log w a (source h) packet refl)
+  pub cast_entry : place_for s g h ≡ entry_for q g packet
+  cast_entry = rw (group_place, group_count, place_is q log w a (source h) packet refl)
 
   -- Where the sender is registered, setup was accepted.
-  verdict-is : found w.state h < w.state.count → verdictIn s t g h ≡ verdict
-  verdict-is here =
-      let n1 : w.state.n1 ≡ q.n1 = ap (λ (x : Settings). x.n1) (a.settings (accepted-setup q log w a (found w.state h) here)) in
-      rw (n1, cast-entry)
+  verdict_is : found w.state h < w.state.count → verdict_in s t g h ≡ verdict
+  verdict_is here =
+      let n1 : w.state.n1 ≡ q.n1 = ap (λ (x : Settings). x.n1) (a.settings (accepted_setup q log w a (found w.state h) here)) in
+      rw (n1, cast_entry)
 
-  mode-is : found w.state h < w.state.count → eqb h.given.mode 1 && not w.state.test ≡ eqb h.given.mode 1 && eqb q.mode 0
-  mode-is here =
-      let accepted = accepted-setup q log w a (found w.state h) here in
+  mode_is : found w.state h < w.state.count → eqb h.given.mode 1 && not w.state.test ≡ eqb h.given.mode 1 && eqb q.mode 0
+  mode_is here =
+      let accepted = accepted_setup q log w a (found w.state h) here in
       let test : w.state.test ≡ eqb q.mode 1 = ap (λ (x : Settings). x.test) (a.settings accepted) in
-      rw test (online-is (eqb h.given.mode 1) q.mode (setup-facts q accepted).mode)
+      rw test (online_is (eqb h.given.mode 1) q.mode (setup_facts q accepted).mode)
 
-  unknown-is : w.state.count ≤ found w.state h → leb (length (sendersOf q)) (place_of (sendersOf q) (source h)) ≡ true
-  unknown-is none = rw (← place_is q log w a (source h) packet refl, ← a.count) (le-leb w.state.count (found w.state h) none)
+  unknown_is : w.state.count ≤ found w.state h → leb (length (senders_of q)) (place_of (senders_of q) (source h)) ≡ true
+  unknown_is none = rw (← place_is q log w a (source h) packet refl, ← a.count) (le-leb w.state.count (found w.state h) none)
 
-  cast-number : first (castRows s t g packet h) ≡ first (rowsCast q (hasTables q t) verdict g packet)
-  unfolding castRows first
-  cast-number = ⊎_elim
+  cast_number : first (cast_rows s t g packet h) ≡ first (rows_cast q (has_tables q t) verdict g packet)
+  unfolding cast_rows first
+  cast_number = ⊎_elim
       (λ (here : found w.state h < w.state.count).
-      rw (a.sound.is-valid, verdict-is here, mode-is here, cast-length packet, message-head packet, group-place, group-count, place_is q log w a (source h) packet refl, a.count))
+      rw (a.sound.is_valid, verdict_is here, mode_is here, cast_length packet, message_head packet, group_place, group_count, place_is q log w a (source h) packet refl, a.count))
       (λ (none : w.state.count ≤ found w.state h).
-      rw (a.sound.is-valid, group-count, cast-length packet, message-head packet, place_is q log w a (source h) packet refl, a.count, unknown-is none))
-      (lt-or-le (found w.state h) w.state.count)
+      rw (a.sound.is_valid, group_count, cast_length packet, message_head packet, place_is q log w a (source h) packet refl, a.count, unknown_is none))
+      (lt_or_le (found w.state h) w.state.count)
 
   abbrev number : ℕ
-  number = first (rowsCast q (hasTables q t) verdict g packet)
+  number = first (rows_cast q (has_tables q t) verdict g packet)
 
   -- 26, 12 to 14; where none of them applies, the sender is registered.
   abbrev earlier : List Row
-  earlier = take 4 (rowsCast q (hasTables q t) verdict g packet)
+  earlier = take 4 (rows_cast q (has_tables q t) verdict g packet)
 
-  earlier-here : first earlier ≡ 0 → found w.state h < w.state.count
-  earlier-here none =
-      let r26 = first-none 26 (not (hasTables q t)) _ (λ e. omega arith) none in
-      let r12 = first-none 12 (not (hasLength 64 1472 packet)) _ (λ e. omega arith) r26.1 in
-      let r13 = first-none 13 (not (isMessage packet)) _ (λ e. omega arith) r12.1 in
-      let r14 = first-none 14 (leb (length (sendersOf q)) (place_of (sendersOf q) (source h))) _ (λ e. omega arith) r13.1 in
-      omega (arith, leb-false (length (sendersOf q)) (place_of (sendersOf q) (source h)) r14.0, place_is q log w a (source h) packet refl, a.count)
+  earlier_here : first earlier ≡ 0 → found w.state h < w.state.count
+  earlier_here none =
+      let r26 = first_none 26 (not (has_tables q t)) _ (λ e. omega arith) none in
+      let r12 = first_none 12 (not (has_length 64 1472 packet)) _ (λ e. omega arith) r26.1 in
+      let r13 = first_none 13 (not (is_message packet)) _ (λ e. omega arith) r12.1 in
+      let r14 = first_none 14 (leb (length (senders_of q)) (place_of (senders_of q) (source h))) _ (λ e. omega arith) r13.1 in
+      omega (arith, leb-false (length (senders_of q)) (place_of (senders_of q) (source h)) r14.0, place_is q log w a (source h) packet refl, a.count)
 
   abbrev later : List Row
-  later = drop 4 (rowsCast q (hasTables q t) verdict g packet)
+  later = drop 4 (rows_cast q (has_tables q t) verdict g packet)
 
   -- An unknown sender's packet is refused,
-  refused-unknown : w.state.count ≤ found w.state h → eqb number 0 ≡ false
-  refused-unknown none = ne_eqb number 0 (λ z. omega (arith, none, earlier-here (first-neither earlier later (unfold numbered in refl) z).0))
+  refused_unknown : w.state.count ≤ found w.state h → eqb number 0 ≡ false
+  refused_unknown none = ne_eqb number 0 (λ z. omega (arith, none, earlier_here (first_neither earlier later (unfold numbered in refl) z).0))
 
   -- and not with 17.
-  same-age : ageWith number (verdictIn s t g h) ≡ ageWith number verdict
-  same-age = age-same number _ _ (λ e.
-      verdict-is (earlier-here (behind-without 17 earlier later (λ z. omega (arith, z)) (unfold numbered in refl) (unfold without in refl) e)))
+  same_age : age_with number (verdict_in s t g h) ≡ age_with number verdict
+  same_age = age_same number _ _ (λ e.
+      verdict_is (earlier_here (behind_without 17 earlier later (λ z. omega (arith, z)) (unfold numbered in refl) (unfold without in refl) e)))
 
-  pub cast-says : ◌≡◌ {A = GroupTold × Tables × List ℕ}
-      (groupTold (multicastAnswer w.state t g packet), multicastTables w.state t g packet, part_of (multicastAnswer w.state t g packet).lies packet w.storage)
-      (castSays q t g packet)
-  unfolding multicastAnswer multicastTables castOutcome castSays
-  cast-says =
-      let n = first (castRows s t g packet h) in
-      either_way t (placeFor s g h) h packet w.storage (verdictIn s t g h) n (ageWith n (verdictIn s t g h)) (eqb n 0) ∙ rw (cast-number, same-age) (⊎_elim
-      (λ (here : found w.state h < w.state.count). rw (verdict-is here, cast-entry))
-      (λ (none : w.state.count ≤ found w.state h). rw (refused-unknown none))
-      (lt-or-le (found w.state h) w.state.count))
+  pub cast_says_lem : ◌≡◌ {A = GroupTold × Tables × List ℕ}
+      (group_told (multicast_answer w.state t g packet), multicast_tables w.state t g packet, part_of (multicast_answer w.state t g packet).lies packet w.storage)
+      (cast_says q t g packet)
+  unfolding multicast_answer multicast_tables cast_outcome cast_says
+  cast_says_lem =
+      let n = first (cast_rows s t g packet h) in
+      either_way t (place_for s g h) h packet w.storage (verdict_in s t g h) n (age_with n (verdict_in s t g h)) (eqb n 0) ∙ rw (cast_number, same_age) (⊎_elim
+      (λ (here : found w.state h < w.state.count). rw (verdict_is here, cast_entry))
+      (λ (none : w.state.count ≤ found w.state h). rw (refused_unknown none))
+      (lt_or_le (found w.state h) w.state.count))

@@ -3,9 +3,9 @@ use Rattle.std.specs.Prelude.{ℕ, ◌≤◌, ◌≡◌, ◌≢◌, length}
 use mathlib.Core.List.{List, [], ◌∷◌, Memᴰ}
 use Rattle.octets.specs.Run.{run}
 use Rattle.header.specs.Head.{head_of}
-use Rattle.header.specs.Places.{headerSize}
+use Rattle.header.specs.Places.{header_size}
 use Rattle.cut.specs.Pieces.{piece, joined}
-use Rattle.cut.specs.Possible.{messageLength, ownLength, unit}
+use Rattle.cut.specs.Possible.{message_length, own_length, unit}
 
 -- What all pieces of a message have alike.
 pub record Kin : Type 0 where
@@ -16,12 +16,12 @@ pub record Kin : Type 0 where
   pub tbn : ℕ
   pub u : ℕ
 
-abbrev pub kinOf : List ℕ → Kin
-kinOf packet = record {
+abbrev pub kin_of : List ℕ → Kin
+kin_of packet = record {
   version = (head_of packet).given.version.0;
   number = (head_of packet).given.number.0;
   tcd = (head_of packet).given.tcd;
-  n = messageLength (head_of packet).cut;
+  n = message_length (head_of packet).cut;
   tbn = (head_of packet).cut.tbn;
   u = unit (head_of packet).cut;
 }
@@ -31,13 +31,13 @@ number_in packet = (head_of packet).cut.cbn
 
 -- The octets behind the header.
 abbrev pub behind : List ℕ → List ℕ
-behind packet = run headerSize (ownLength (head_of packet).cut) packet
+behind packet = run header_size (own_length (head_of packet).cut) packet
 
 -- These octets are those of piece c of a message, as one of the packets brought them.
 pub record Brought (packets : List (List ℕ)) (kin : Kin) (c : ℕ) (octets : List ℕ) : Type 0 where
   pub packet : List ℕ
   pub among : Memᴰ packet packets
-  pub alike : kinOf packet ≡ kin
+  pub alike : kin_of packet ≡ kin
   pub number : number_in packet ≡ c
   pub same : behind packet ≡ octets
 
@@ -48,7 +48,7 @@ OnePerNumber (packet ∷ packets) = ((o : List ℕ) → Memᴰ o packets → num
 
 -- "a join of pieces accepted since that message last opened, one for each piece number"
 pub record Joined (packets : List (List ℕ)) (packet octets : List ℕ) : Type 0 where
-  pub all : length octets ≡ (kinOf packet).n
-  pub parts : (c : ℕ) → 1 ≤ c → c ≤ (kinOf packet).tbn → Brought packets (kinOf packet) c (piece octets (kinOf packet).u c)
-  pub whole : joined (kinOf packet).tbn (piece octets (kinOf packet).u) ≡ octets
+  pub all : length octets ≡ (kin_of packet).n
+  pub parts : (c : ℕ) → 1 ≤ c → c ≤ (kin_of packet).tbn → Brought packets (kin_of packet) c (piece octets (kin_of packet).u c)
+  pub whole : joined (kin_of packet).tbn (piece octets (kin_of packet).u) ≡ octets
   pub one_each : OnePerNumber packets

@@ -5,52 +5,52 @@ use Rattle.std.proofs.Common.{ap, ◌∙◌, arith}
 use Rattle.state.specs.declared.Address.{Address}
 use Rattle.state.specs.declared.Sender.{Sender}
 use Rattle.state.specs.Limits.{given}
-use Rattle.state.specs.State.{senderAt}
+use Rattle.state.specs.State.{sender_at}
 use Rattle.answers.specs.declared.Setup.{Setup}
 use Rattle.rules.specs.pasts.Past.{World, Event, message, alive, clock, aside, question, multicast, step, after, said, answers, Start}
-use Rattle.rules.specs.pasts.PastLaws.{after-count}
-use Rattle.promised.specs.AgreesLaws.{Agrees, agrees_start, agrees-step}
+use Rattle.rules.specs.pasts.PastLaws.{after_count}
+use Rattle.promised.specs.AgreesLaws.{Agrees, agrees_start, agrees_step}
 use Rattle.promised.specs.AlivePast.{AliveBy}
-use Rattle.promised.specs.AlivePastLaws.{alive-after, after-alive}
-use Rattle.promised.specs.Log.{ToldOf, toldBy, Exchange, exchange, logged, lifeOf}
-use Rattle.promised.specs.CastLaws.{cast-says}
-use Rattle.promised.specs.MessageSaysLaws.{message-says}
-use Rattle.promised.specs.Says.{sendersOf, says, logOf}
-use Rattle.promised.specs.SaysLaws.{alive-says, clock-says, question-says}
+use Rattle.promised.specs.AlivePastLaws.{alive_after, after_alive}
+use Rattle.promised.specs.Log.{ToldOf, told_by, Exchange, exchange, logged, life_of}
+use Rattle.promised.specs.CastLaws.{cast_says_lem}
+use Rattle.promised.specs.MessageSaysLaws.{message_says_lem}
+use Rattle.promised.specs.Says.{senders_of, says, log_of}
+use Rattle.promised.specs.SaysLaws.{alive_says_lem, clock_says_lem, question_says_lem}
 
-pub says_is : (q : Setup) (log : List Exchange) (w : World) → Agrees q log w → (e : Event) → toldBy e (said w e) ≡ says q log e
+pub says_is : (q : Setup) (log : List Exchange) (w : World) → Agrees q log w → (e : Event) → told_by e (said w e) ≡ says q log e
 unfolding said says
-says_is q log w a (message packet) = message-says q log w a packet
-says_is q log w a (alive packet) = alive-says q log w a packet
-says_is q log w a (clock ms) = clock-says q log w a ms
-says_is q log w a (aside question) = question-says q log w a
-says_is q log w a (aside (multicast t g packet)) = cast-says q log w a t g packet
+says_is q log w a (message packet) = message_says_lem q log w a packet
+says_is q log w a (alive packet) = alive_says_lem q log w a packet
+says_is q log w a (clock ms) = clock_says_lem q log w a ms
+says_is q log w a (aside question) = question_says_lem q log w a
+says_is q log w a (aside (multicast t g packet)) = cast_says_lem q log w a t g packet
 
 pub agrees_after : (q : Setup) (log : List Exchange) (w : World) → Agrees q log w → (es : List Event) → Agrees q (logged log es (answers w es)) (after w es)
 unfolding logged answers after
 agrees_after q log w a [] = a
-agrees_after q log w a (e ∷ es) = agrees_after q (exchange e (toldBy e (said w e)) ∷ log) (step w e) (agrees-step q log w a e) es
+agrees_after q log w a (e ∷ es) = agrees_after q (exchange e (told_by e (said w e)) ∷ log) (step w e) (agrees_step q log w a e) es
 
-pub log_is : (q : Setup) (log : List Exchange) (w : World) → Agrees q log w → (es : List Event) → logged log es (answers w es) ≡ logOf q log es
-unfolding logged answers logOf
+pub log_is : (q : Setup) (log : List Exchange) (w : World) → Agrees q log w → (es : List Event) → logged log es (answers w es) ≡ log_of q log es
+unfolding logged answers log_of
 log_is q log w a [] = refl
 log_is q log w a (e ∷ es) =
-    log_is q (exchange e (toldBy e (said w e)) ∷ log) (step w e) (agrees-step q log w a e) es
-    ∙ ap (λ (t : ToldOf e). logOf q (exchange e t ∷ log) es) (says_is q log w a e)
+    log_is q (exchange e (told_by e (said w e)) ∷ log) (step w e) (agrees_step q log w a e) es
+    ∙ ap (λ (t : ToldOf e). log_of q (exchange e t ∷ log) es) (says_is q log w a e)
 
 -- Who is alive by what the calls were told is alive by the signals that came.
-module _ (w : World) (s : Start w) (es : List Event) (i : ℕ) (here : i < length (sendersOf s.given)) where
+module _ (w : World) (s : Start w) (es : List Event) (i : ℕ) (here : i < length (senders_of s.given)) where
   abbrev a : Address
-  a = given (sendersOf s.given) i
+  a = given (senders_of s.given) i
 
-  at-start : Agrees s.given [] w
-  at-start = agrees_start w s
+  at_start : Agrees s.given [] w
+  at_start = agrees_start w s
 
   place : i < w.state.count
-  place = omega (arith, here, at-start.count)
+  place = omega (arith, here, at_start.count)
 
-  alive-is : (senderAt (after w es).state i).alive ≡ (lifeOf a i (logged [] es (answers w es))).alive
-  alive-is = ap (λ (x : Sender). x.alive) ((agrees_after s.given [] w at-start es).lives i (omega (arith, place, after-count w es)))
+  alive_is : (sender_at (after w es).state i).alive ≡ (life_of a i (logged [] es (answers w es))).alive
+  alive_is = ap (λ (x : Sender). x.alive) ((agrees_after s.given [] w at_start es).lives i (omega (arith, place, after_count w es)))
 
-  pub alive-told : ((lifeOf a i (logged [] es (answers w es))).alive ≡ true → AliveBy a es) × (AliveBy a es → (lifeOf a i (logged [] es (answers w es))).alive ≡ true)
-  alive-told = rw (← alive-is, ← at-start.address i place) (alive-after w s es i place, after-alive w s es i place)
+  pub told_alive : ((life_of a i (logged [] es (answers w es))).alive ≡ true → AliveBy a es) × (AliveBy a es → (life_of a i (logged [] es (answers w es))).alive ≡ true)
+  told_alive = rw (← alive_is, ← at_start.address i place) (alive_after w s es i place, after_alive w s es i place)

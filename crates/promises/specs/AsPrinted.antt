@@ -2,9 +2,9 @@
 -- The limits and the lengths of pieces stand in `cut`, beside its definitions. Proved in AsPrintedLaws.antt.
 use Rattle.std.specs.Prelude.{ℕ, ◌+◌, ◌-◌, ◌*◌, ◌≤◌, ◌≡◌, true, List, length, take, drop}
 use Rattle.header.specs.declared.Given.{Given}
-use Rattle.header.specs.Head.{head_of, isFixed}
+use Rattle.header.specs.Head.{head_of, is_fixed}
 use Rattle.cut.specs.declared.cutter.Cutting.{Cutting}
-use Rattle.cut.specs.Cutter.{Words, cutterTold}
+use Rattle.cut.specs.Cutter.{Words, cutter_told}
 use Rattle.cut.specs.Pieces.{pieces}
 use Rattle.cut.specs.Possible.{possible}
 use Rattle.promises.specs.Course.{CutterMeets}
@@ -14,9 +14,9 @@ use Rattle.cut.specs.Printed.{Carries, Limits}
 -- a header with "ML: message length + 64. BSIZE: PDU length, header included. CBN: piece number from 1. TBN: number of
 -- pieces", whose cut is possible; behind it the piece; and "Octets behind it in the buffer stay."
 pub record Writes (g : Given) (m : List ℕ) (u t c p : ℕ) (buffer : List ℕ) (r : Cutting) (left : List ℕ) : Type 0 where
-  pub answer : cutterTold r ≡ record { number = 0; length = 64 + p }
+  pub answer : cutter_told r ≡ record { number = 0; length = 64 + p }
   pub head : head_of left ≡ record { given = g; cut = record { ml = length m + 64; bsize = 64 + p; cbn = c; tbn = t } }
-  pub fixed : isFixed left ≡ true
+  pub fixed : is_fixed left ≡ true
   pub cut : possible (head_of left).cut ≡ true
   pub piece : take p (drop 64 left) ≡ take p (drop ((c - 1) * u) m)
   pub behind : drop (64 + p) left ≡ drop (64 + p) buffer
@@ -30,5 +30,5 @@ pub record CuttingAsPrinted : Type 0 where
       → Writes g m u (pieces (length m) u) c p buffer r left
   -- and nowhere else.
   pub only : (g : Given) (m : List ℕ) (u c : ℕ) (buffer : List ℕ) (r : Cutting) (left : List ℕ) → CutterMeets g m u c buffer r left
-      → (cutterTold r).number ≡ 0
+      → (cutter_told r).number ≡ 0
       → Limits g (length m) u c × ((p : ℕ) → Carries (length m) u (pieces (length m) u) c p → 64 + p ≤ length buffer)

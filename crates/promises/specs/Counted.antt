@@ -2,7 +2,7 @@
 -- message call may be made directly or through the tally, and what the tally then says. Proved in CountedLaws.antt.
 use Rattle.std.specs.Prelude.{ℕ, ◌+◌, ◌≤◌, min, ◌≡◌, ◌⊎◌, cond, List, [], ◌∷◌, leb}
 use Rattle.answers.specs.declared.Answer.{Answer}
-use Rattle.answers.specs.Told.{leastRefusal, messageTold}
+use Rattle.answers.specs.Told.{least_refusal, message_told}
 use Rattle.rules.specs.pasts.Past.{World, Event, message, Said, Answers}
 use Rattle.tally.specs.declared.Tally.{Tally}
 use Rattle.promises.specs.Course.{TallyMeets, PartMeets, Meets, Course}
@@ -44,14 +44,14 @@ TalliedIsCourse = (t : Tally) (w : World) (ms : List Made) (rs : Answers (calls_
 -- ---- one call
 
 abbrev pub number_of : Answer → ℕ
-number_of r = (messageTold r).outcome.number
+number_of r = (message_told r).outcome.number
 
 -- "A refusal changes neither the state nor one octet of lent memory, save a count of refusals", and "one count of
 -- answers 0 and 1", "each stopping at 4,294,967,295": by the number that was told, which is one or the other.
 pub record CountsOne (t : Tally) (w : World) (number : ℕ) (s : Tally) (v : World) : Type 0 where
-  pub refusal : leastRefusal ≤ number → (v ≡ w) × (s ≡ record { answers = t.answers; refusals = min (t.refusals + 1) 4294967295 })
+  pub refusal : least_refusal ≤ number → (v ≡ w) × (s ≡ record { answers = t.answers; refusals = min (t.refusals + 1) 4294967295 })
   pub answer : number ≤ 1 → s ≡ record { answers = min (t.answers + 1) 4294967295; refusals = t.refusals }
-  pub either : (number ≤ 1) ⊎ (leastRefusal ≤ number)
+  pub either : (number ≤ 1) ⊎ (least_refusal ≤ number)
 
 abbrev pub OneCounted : Type 0
 OneCounted = (t : Tally) (w : World) (packet : List ℕ) (r : Answer) (s : Tally) (v : World) → TallyMeets t w packet r s v → CountsOne t w (number_of r) s v
@@ -59,19 +59,19 @@ OneCounted = (t : Tally) (w : World) (packet : List ℕ) (r : Answer) (s : Tally
 -- ---- a whole course
 
 -- Of the calls through the tally, how many were told 0 or 1, and how many a refusal's number.
-unfoldable pub answersTold : (ms : List Made) → Answers (calls_of ms) → ℕ
-answersTold [] rs = 0
-answersTold (direct e ∷ ms) rs = answersTold ms rs.1
-answersTold (tallied packet ∷ ms) rs = cond (leb (number_of rs.0.0) 1) 1 0 + answersTold ms rs.1
+unfoldable pub answers_told : (ms : List Made) → Answers (calls_of ms) → ℕ
+answers_told [] rs = 0
+answers_told (direct e ∷ ms) rs = answers_told ms rs.1
+answers_told (tallied packet ∷ ms) rs = cond (leb (number_of rs.0.0) 1) 1 0 + answers_told ms rs.1
 
-unfoldable pub refusalsTold : (ms : List Made) → Answers (calls_of ms) → ℕ
-refusalsTold [] rs = 0
-refusalsTold (direct e ∷ ms) rs = refusalsTold ms rs.1
-refusalsTold (tallied packet ∷ ms) rs = cond (leb leastRefusal (number_of rs.0.0)) 1 0 + refusalsTold ms rs.1
+unfoldable pub refusals_told : (ms : List Made) → Answers (calls_of ms) → ℕ
+refusals_told [] rs = 0
+refusals_told (direct e ∷ ms) rs = refusals_told ms rs.1
+refusals_told (tallied packet ∷ ms) rs = cond (leb least_refusal (number_of rs.0.0)) 1 0 + refusals_told ms rs.1
 
 -- "one count of answers 0 and 1, one of refusals, each stopping at 4,294,967,295": from any tally on that has not
 -- passed it, as no record of two 32-bit numbers has.
 abbrev pub AllCounted : Type 0
 AllCounted = (t : Tally) → t.answers ≤ 4294967295 → t.refusals ≤ 4294967295
     → (w : World) (ms : List Made) (rs : Answers (calls_of ms)) (s : Tally) (v : World) → TalliedCourse t w ms rs s v
-    → (s.answers ≡ min (t.answers + answersTold ms rs) 4294967295) × (s.refusals ≡ min (t.refusals + refusalsTold ms rs) 4294967295)
+    → (s.answers ≡ min (t.answers + answers_told ms rs) 4294967295) × (s.refusals ≡ min (t.refusals + refusals_told ms rs) 4294967295)

@@ -5,25 +5,25 @@
 // The first equations of each contract are those of the call itself. A call that is lent no storage leaves any storage
 // as it is.
 ghost use Rattle.std.specs.Prelude.{◌≡◌, List, ℕ, ◌*◌, length};
-ghost use Rattle.cut.specs.Cutter.{cutterAnswer, cutterBuffer};
-ghost use Rattle.fault.specs.Reading.{reading_of, deadAt, errorAt, optionsOf};
-ghost use Rattle.fault.specs.Writing.{writingOf, bufferOf};
+ghost use Rattle.cut.specs.Cutter.{cutter_answer, cutter_buffer};
+ghost use Rattle.fault.specs.Reading.{reading_of, dead_at, error_at, options_of};
+ghost use Rattle.fault.specs.Writing.{writing_of, buffer_of};
 ghost use Rattle.state.specs.Held.{held_at};
-ghost use Rattle.rules.specs.calls.Alive.{aliveAnswer};
-ghost use Rattle.rules.specs.calls.Clock.{clockAnswer};
-ghost use Rattle.rules.specs.calls.Message.{area, messageAnswer, messageStorage};
-ghost use Rattle.rules.specs.calls.Multicast.{multicastAnswer, multicastTables};
+ghost use Rattle.rules.specs.calls.Alive.{alive_answer};
+ghost use Rattle.rules.specs.calls.Clock.{clock_answer};
+ghost use Rattle.rules.specs.calls.Message.{area, message_answer, message_storage};
+ghost use Rattle.rules.specs.calls.Multicast.{multicast_answer, multicast_tables};
 ghost use Rattle.rules.specs.calls.Part.{part_of};
 ghost use Rattle.rules.specs.pasts.Past as past;
 ghost use Rattle.rules.specs.pasts.Past.{step, after, said};
-ghost use Rattle.rules.specs.calls.Question.{questionAnswer};
-ghost use Rattle.rules.specs.calls.Setup.{setupAnswer};
+ghost use Rattle.rules.specs.calls.Question.{question_answer};
+ghost use Rattle.rules.specs.calls.Setup.{setup_answer};
 ghost use Rattle.multicast.specs.Lent.{tables};
-ghost use Rattle.tally.specs.Tally.{counted as countedOf};
-ghost use Rattle.words.specs.Words.{wordsMost, stateIn, leftBy};
-ghost use Rattle.board.specs.Calls.{setupFor, setupWords, messageFor, storageFor, tallyFor, aliveFor, clockFor, questionFor, multicastFor, tablesFor, heldFor};
-ghost use Rattle.promises.specs.Board.{board, worldOf, BoardMeets, BoardStarts};
-ghost use Rattle.promises.specs.Course.{world, messagesOf, Leads, SetupMeets, MessageMeets, TallyMeets, PartMeets, AliveMeets, ClockMeets, QuestionMeets, GroupMeets, HeldMeets, CutterMeets, ReadMeets, DeadMeets, ErrorMeets, OptionsMeets, parts, WriteMeets};
+ghost use Rattle.tally.specs.Tally.{counted as counted_of};
+ghost use Rattle.words.specs.Words.{words_most, state_in, left_by};
+ghost use Rattle.board.specs.Calls.{setup_for, setup_words, message_for, storage_for, tally_for, alive_for, clock_for, question_for, multicast_for, tables_for, held_for};
+ghost use Rattle.promises.specs.Board.{board, world_of, BoardMeets, BoardStarts};
+ghost use Rattle.promises.specs.Course.{world, messages_of, Leads, SetupMeets, MessageMeets, TallyMeets, PartMeets, AliveMeets, ClockMeets, QuestionMeets, GroupMeets, HeldMeets, CutterMeets, ReadMeets, DeadMeets, ErrorMeets, OptionsMeets, parts, WriteMeets};
 
 use answers::{Answer, GroupAnswer, Missing, Noted, Setup, Started, Ticked, Where};
 use board::Told;
@@ -46,15 +46,15 @@ use tally::Tally;
 
 // The storage may hold any octets.
 pub fn setup(q: Setup) -> Started
-    ensures answer { result ≡ setupAnswer q }
+    ensures answer { result ≡ setup_answer q }
     ensures begins { (storage : List ℕ) → length storage ≡ result.state.count * area → SetupMeets q result (world result.state storage) }
 {
     setup::setup(q)
 }
 
 pub fn message(state: Receiver, storage: &mut [u8], packet: &[u8]) -> Answer
-    ensures answer { result ≡ messageAnswer state (length storage.old) packet.now }
-    ensures stored { storage.new ≡ messageStorage state storage.old packet.now }
+    ensures answer { result ≡ message_answer state (length storage.old) packet.now }
+    ensures stored { storage.new ≡ message_storage state storage.old packet.now }
     ensures meets { MessageMeets (world state storage.old) packet.now result (world result.state storage.new) }
 {
     receiver::message::message(state, storage, packet)
@@ -63,8 +63,8 @@ pub fn message(state: Receiver, storage: &mut [u8], packet: &[u8]) -> Answer
 // Two calls: the second is given "the state and storage that the one before left".
 pub fn messages(state: Receiver, storage: &mut [u8], first: &[u8], second: &[u8]) -> Answer
     ensures answer { result ≡ (said (step (world state storage.old) (past.message first.now)) (past.message second.now)).0 }
-    ensures stored { storage.new ≡ (after (world state storage.old) (messagesOf first.now second.now)).storage }
-    ensures course { Leads (world state storage.old) (messagesOf first.now second.now) (world result.state storage.new) }
+    ensures stored { storage.new ≡ (after (world state storage.old) (messages_of first.now second.now)).storage }
+    ensures course { Leads (world state storage.old) (messages_of first.now second.now) (world result.state storage.new) }
 {
     let a = message(state, storage, first);
     let next = a.state;
@@ -73,9 +73,9 @@ pub fn messages(state: Receiver, storage: &mut [u8], first: &[u8], second: &[u8]
 
 // The message call with the tally lent.
 pub fn tallied(tally: &mut Tally, state: Receiver, storage: &mut [u8], packet: &[u8]) -> Answer
-    ensures answer { result ≡ messageAnswer state (length storage.old) packet.now }
-    ensures stored { storage.new ≡ messageStorage state storage.old packet.now }
-    ensures tallied { tally.new ≡ countedOf tally.old (messageAnswer state (length storage.old) packet.now).outcome }
+    ensures answer { result ≡ message_answer state (length storage.old) packet.now }
+    ensures stored { storage.new ≡ message_storage state storage.old packet.now }
+    ensures tallied { tally.new ≡ counted_of tally.old (message_answer state (length storage.old) packet.now).outcome }
     ensures meets { TallyMeets tally.old (world state storage.old) packet.now result tally.new (world result.state storage.new) }
 {
     tally::message(tally, state, storage, packet)
@@ -89,21 +89,21 @@ pub fn part<'a>(lies: Where, packet: &'a [u8], storage: &'a [u8]) -> &'a [u8]
 }
 
 pub fn alive(state: Receiver, packet: &[u8]) -> Noted
-    ensures answer { result ≡ aliveAnswer state packet.now }
+    ensures answer { result ≡ alive_answer state packet.now }
     ensures meets { (storage : List ℕ) → AliveMeets (world state storage) packet.now result (world result.state storage) }
 {
     alive::alive(state, packet)
 }
 
 pub fn clock(state: Receiver, ms: u64) -> Ticked
-    ensures answer { result ≡ clockAnswer state ms }
+    ensures answer { result ≡ clock_answer state ms }
     ensures meets { (storage : List ℕ) → ClockMeets (world state storage) ms result (world result.state storage) }
 {
     clock::clock(state, ms)
 }
 
 pub fn question(state: Receiver) -> Missing
-    ensures answer { result ≡ questionAnswer state }
+    ensures answer { result ≡ question_answer state }
     ensures meets { (storage : List ℕ) → QuestionMeets (world state storage) result (world state storage) }
 {
     question::question(state)
@@ -117,9 +117,9 @@ pub fn multicast(
     group: Group,
     packet: &[u8],
 ) -> GroupAnswer
-    ensures answer { result ≡ multicastAnswer state (tables versions.old numbers.old) group.0 packet.now }
-    ensures versions { versions.new ≡ (multicastTables state (tables versions.old numbers.old) group.0 packet.now).versions }
-    ensures numbers { numbers.new ≡ (multicastTables state (tables versions.old numbers.old) group.0 packet.now).numbers }
+    ensures answer { result ≡ multicast_answer state (tables versions.old numbers.old) group.0 packet.now }
+    ensures versions { versions.new ≡ (multicast_tables state (tables versions.old numbers.old) group.0 packet.now).versions }
+    ensures numbers { numbers.new ≡ (multicast_tables state (tables versions.old numbers.old) group.0 packet.now).numbers }
     ensures meets { (storage : List ℕ) → GroupMeets (world state storage) (tables versions.old numbers.old) group.0 packet.now result (tables versions.new numbers.new) (world state storage) }
 {
     multicast::multicast(state, versions, numbers, group, packet)
@@ -134,8 +134,8 @@ pub fn held(state: Receiver, place: u8) -> u8
 }
 
 pub fn cutter(given: Given, message: &[u8], u: u16, piece: u8, buffer: &mut [u8]) -> Cutting
-    ensures answer { result ≡ cutterAnswer given message.now u piece (length buffer.old) }
-    ensures written { buffer.new ≡ cutterBuffer given message.now u piece buffer.old }
+    ensures answer { result ≡ cutter_answer given message.now u piece (length buffer.old) }
+    ensures written { buffer.new ≡ cutter_buffer given message.now u piece buffer.old }
     ensures meets { CutterMeets given message.now u piece buffer.old result buffer.new }
 {
     cut::cutter::cutter(given, message, u, piece, buffer)
@@ -151,21 +151,21 @@ pub fn read_section(s: &[u8]) -> Report
 }
 
 pub fn is_dead(s: &[u8], x: u32) -> bool
-    ensures answer { result ≡ deadAt s.now x }
+    ensures answer { result ≡ dead_at s.now x }
     ensures meets { DeadMeets s.now x result }
 {
     reading::is_dead(s, x)
 }
 
 pub fn error_at(s: &[u8], k: u32) -> Error
-    ensures answer { result ≡ errorAt s.now k }
+    ensures answer { result ≡ error_at s.now k }
     ensures meets { ErrorMeets s.now k result }
 {
     reading::error_at(s, k)
 }
 
 pub fn options(s: &[u8]) -> &[u8]
-    ensures answer { result.now ≡ optionsOf s.now }
+    ensures answer { result.now ≡ options_of s.now }
     ensures meets { OptionsMeets s.now result.now }
 {
     reading::options(s)
@@ -179,8 +179,8 @@ pub fn write_section(
     options: &[u8],
     buffer: &mut [u8],
 ) -> Writing
-    ensures answer { result ≡ writingOf modules bits.now errors.now options.now (length buffer.old) }
-    ensures written { buffer.new ≡ bufferOf modules bits.now errors.now name options.now buffer.old }
+    ensures answer { result ≡ writing_of modules bits.now errors.now options.now (length buffer.old) }
+    ensures written { buffer.new ≡ buffer_of modules bits.now errors.now name options.now buffer.old }
     ensures meets { WriteMeets (parts modules bits.now errors.now name options.now) buffer.old result buffer.new }
 {
     writing::write_section(modules, bits, errors, name, options, buffer)
@@ -189,9 +189,9 @@ pub fn write_section(
 // ---- the calls for C
 
 pub fn board_message(state: &mut [u64], storage: &mut [u8], packet: &[u8]) -> Told
-    ensures answer { result ≡ messageFor state.old (length storage.old) packet.now }
-    ensures left { state.new ≡ leftBy state.old (messageAnswer (stateIn state.old) (length storage.old) packet.now).state }
-    ensures stored { storage.new ≡ storageFor state.old storage.old packet.now }
+    ensures answer { result ≡ message_for state.old (length storage.old) packet.now }
+    ensures left { state.new ≡ left_by state.old (message_answer (state_in state.old) (length storage.old) packet.now).state }
+    ensures stored { storage.new ≡ storage_for state.old storage.old packet.now }
     ensures meets { BoardMeets (board state.old storage.old) (past.message packet.now) result (board state.new storage.new) }
 {
     adp_message(state, storage, packet)
@@ -204,33 +204,33 @@ pub fn board_tallied(
     packet: &[u8],
     tally: &mut [u32; 2],
 ) -> Told
-    ensures answer { result ≡ messageFor state.old (length storage.old) packet.now }
-    ensures left { state.new ≡ leftBy state.old (messageAnswer (stateIn state.old) (length storage.old) packet.now).state }
-    ensures kept { storage.new ≡ storageFor state.old storage.old packet.now }
-    ensures tallied { tally.new ≡ tallyFor tally.old state.old (length storage.old) packet.now }
+    ensures answer { result ≡ message_for state.old (length storage.old) packet.now }
+    ensures left { state.new ≡ left_by state.old (message_answer (state_in state.old) (length storage.old) packet.now).state }
+    ensures kept { storage.new ≡ storage_for state.old storage.old packet.now }
+    ensures tallied { tally.new ≡ tally_for tally.old state.old (length storage.old) packet.now }
     ensures message { BoardMeets (board state.old storage.old) (past.message packet.now) result (board state.new storage.new) }
 {
     adp_message_tallied(state, storage, packet, tally)
 }
 
 pub fn board_alive(state: &mut [u64], packet: &[u8]) -> u8
-    ensures answer { result ≡ aliveFor state.old packet.now }
-    ensures left { state.new ≡ leftBy state.old (aliveAnswer (stateIn state.old) packet.now).state }
+    ensures answer { result ≡ alive_for state.old packet.now }
+    ensures left { state.new ≡ left_by state.old (alive_answer (state_in state.old) packet.now).state }
     ensures meets { (storage : List ℕ) → BoardMeets (board state.old storage) (past.alive packet.now) result (board state.new storage) }
 {
     adp_alive(state, packet)
 }
 
 pub fn board_clock(state: &mut [u64], ms: u64) -> board::Ticked
-    ensures answer { result ≡ clockFor state.old ms }
-    ensures left { state.new ≡ leftBy state.old (clockAnswer (stateIn state.old) ms).state }
+    ensures answer { result ≡ clock_for state.old ms }
+    ensures left { state.new ≡ left_by state.old (clock_answer (state_in state.old) ms).state }
     ensures meets { (storage : List ℕ) → BoardMeets (board state.old storage) (past.clock ms) result (board state.new storage) }
 {
     adp_clock(state, ms)
 }
 
 pub fn board_question(state: &[u64]) -> board::Missing
-    ensures answer { result ≡ questionFor state.now }
+    ensures answer { result ≡ question_for state.now }
     ensures meets { (storage : List ℕ) → BoardMeets (board state.now storage) (past.aside past.question) result (board state.now storage) }
 {
     adp_question(state)
@@ -243,9 +243,9 @@ pub fn board_multicast(
     group: u8,
     packet: &[u8],
 ) -> Told
-    ensures answer { result ≡ multicastFor state.now (tables versions.old numbers.old) group packet.now }
-    ensures versions { versions.new ≡ (tablesFor state.now (tables versions.old numbers.old) group packet.now).versions }
-    ensures numbers { numbers.new ≡ (tablesFor state.now (tables versions.old numbers.old) group packet.now).numbers }
+    ensures answer { result ≡ multicast_for state.now (tables versions.old numbers.old) group packet.now }
+    ensures versions { versions.new ≡ (tables_for state.now (tables versions.old numbers.old) group packet.now).versions }
+    ensures numbers { numbers.new ≡ (tables_for state.now (tables versions.old numbers.old) group packet.now).numbers }
     ensures meets { (storage : List ℕ) → BoardMeets (board state.now storage) (past.aside (past.multicast (tables versions.old numbers.old) group packet.now)) (result, tables versions.new numbers.new) (board state.now storage) }
 {
     adp_multicast(state, versions, numbers, group, packet)
@@ -253,17 +253,17 @@ pub fn board_multicast(
 
 // Of any words: it is not asked whether they are a state.
 pub fn board_held(state: &[u64], place: u8) -> u8
-    ensures answer { result ≡ heldFor state.now place }
-    ensures meets { (storage : List ℕ) → HeldMeets (worldOf (board state.now storage)) place result }
+    ensures answer { result ≡ held_for state.now place }
+    ensures meets { (storage : List ℕ) → HeldMeets (world_of (board state.now storage)) place result }
 {
     adp_held(state, place)
 }
 
 // Of as many words as a state has.
 pub fn board_setup(state: &mut [u64], settings: Setup) -> u8
-    ensures answer { result ≡ setupFor state.old settings }
-    ensures left { state.new ≡ setupWords state.old settings }
-    ensures begins { (storage : List ℕ) → length state.old ≡ wordsMost → length storage ≡ (stateIn state.new).count * area → BoardStarts settings state.old result (board state.new storage) }
+    ensures answer { result ≡ setup_for state.old settings }
+    ensures left { state.new ≡ setup_words state.old settings }
+    ensures begins { (storage : List ℕ) → length state.old ≡ words_most → length storage ≡ (state_in state.new).count * area → BoardStarts settings state.old result (board state.new storage) }
 {
     adp_setup(state, settings)
 }

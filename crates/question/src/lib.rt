@@ -1,13 +1,13 @@
 // The question: of the first sender in table order with an open message, which piece is its lowest missing one?
 ghost use Rattle.std.specs.Prelude.{◌≡◌};
-ghost use Rattle.rules.specs.calls.Question.{piecesOf, questionAnswer};
+ghost use Rattle.rules.specs.calls.Question.{pieces_of, question_answer};
 
 use answers::Missing;
 use map::holds;
 use state::{Receiver, Sender};
 
 pub fn question(state: Receiver) -> Missing
-    ensures { result ≡ questionAnswer state }
+    ensures { result ≡ question_answer state }
 {
     if !state.within() {
         return Missing::Refused(9);
@@ -35,7 +35,7 @@ pub fn question(state: Receiver) -> Missing
 
 // How many pieces there are to look for.
 fn pieces_of(s: Sender) -> u8
-    ensures { result ≡ piecesOf s }
+    ensures { result ≡ pieces_of s }
 {
     if s.open { s.message.tbn } else { 0 }
 }

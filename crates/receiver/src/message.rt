@@ -2,7 +2,7 @@
 // back.
 ghost use Rattle.std.specs.Prelude.{◌≡◌, length};
 ghost use Rattle.rules.specs.calls.First.{first};
-ghost use Rattle.rules.specs.calls.Message.{packetRows, headWithin, storageAfter, lies_at, whereBy, messageAnswer, messageStorage};
+ghost use Rattle.rules.specs.calls.Message.{packet_rows, head_within, storage_after, lies_at, where_by, message_answer, message_storage};
 
 use answers::{Answer, Dropped, Outcome, Where};
 use cut::possible::{message_length, own_length, own_place};
@@ -16,8 +16,8 @@ use state::{Address, Receiver};
 pub const MOST: usize = 1_460;
 
 pub fn message(mut state: Receiver, storage: &mut [u8], packet: &[u8]) -> Answer
-    ensures answer { result ≡ messageAnswer state (length storage.old) packet.now }
-    ensures stored { storage.new ≡ messageStorage state storage.old packet.now }
+    ensures answer { result ≡ message_answer state (length storage.old) packet.now }
+    ensures stored { storage.new ≡ message_storage state storage.old packet.now }
 {
     let h = read_head(packet);
     let look = state.look(Address::of(h));
@@ -64,7 +64,7 @@ pub fn message(mut state: Receiver, storage: &mut [u8], packet: &[u8]) -> Answer
 
 // The first of 9 and 11 to 14 that applies, or 0.
 pub fn packet_number(valid: bool, count: u8, at: u8, room: usize, packet: &[u8], h: Head) -> u8
-    ensures { result ≡ first (packetRows valid count at room packet.now h) }
+    ensures { result ≡ first (packet_rows valid count at room packet.now h) }
 {
     let size = packet.len();
     if !valid {
@@ -84,7 +84,7 @@ pub fn packet_number(valid: bool, count: u8, at: u8, room: usize, packet: &[u8],
 
 // The fixed fields, PRI, MODE, the code and SEQ.
 pub fn head_within(packet: &[u8], h: Head) -> bool
-    ensures { result ≡ headWithin packet.now h }
+    ensures { result ≡ head_within packet.now h }
 {
     let given = h.given;
     let number = given.number;
@@ -93,7 +93,7 @@ pub fn head_within(packet: &[u8], h: Head) -> bool
 
 // Where the message lies, if it was delivered.
 pub fn where_to(o: Outcome, at: u8, h: Head) -> Where
-    ensures { result ≡ whereBy o at h }
+    ensures { result ≡ where_by o at h }
 {
     match o {
         Outcome::Refused { number: _, age: _ } => Where::Nothing,
@@ -118,7 +118,7 @@ fn lies(at: u8, h: Head) -> Where
 
 // Lays a piece of several down in its sender's area.
 pub fn store(storage: &mut [u8], at: u8, h: Head, packet: &[u8])
-    ensures { storage.new ≡ storageAfter storage.old at h packet.now }
+    ensures { storage.new ≡ storage_after storage.old at h packet.now }
 {
     let cut = h.cut;
     if cut.tbn != 1 {

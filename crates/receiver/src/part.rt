@@ -1,6 +1,6 @@
 // The delivered octets, as a returned part of one of two lent slices. Nothing is copied.
 ghost use Rattle.std.specs.Prelude.{◌≡◌};
-ghost use Rattle.rules.specs.calls.Part.{behindHeader, storedPart, part_of};
+ghost use Rattle.rules.specs.calls.Part.{behind_header, stored_part, part_of};
 
 use answers::Where;
 use header::SIZE;
@@ -8,14 +8,14 @@ use octets::{from, run};
 
 // A message of one piece: the packet behind its header.
 pub fn behind_header(packet: &[u8]) -> &[u8]
-    ensures { result.now ≡ behindHeader packet.now }
+    ensures { result.now ≡ behind_header packet.now }
 {
     from(packet, SIZE)
 }
 
 // A message of several pieces: the storage from where it starts.
 fn stored_part(storage: &[u8], start: usize, size: usize) -> &[u8]
-    ensures { result.now ≡ storedPart storage.now start size }
+    ensures { result.now ≡ stored_part storage.now start size }
 {
     let part = run(storage, start, size);
     if part.len() < size { &part[..0] } else { part }

@@ -26,54 +26,54 @@ Free v s = (v.0 ≡ 0) × (s.0 ≡ 1)
 -- The four rules as they are printed, "in this order": each applies where none before it does. The check says this and
 -- nothing else (`says-check`, `says-only`).
 pub data Says (n1 : ℕ) (rv : Version) (r : Number) (v : Version) (s : Number) : Verdict → Type 0 where
-  rule-1 : Free v s → Says n1 rv r v s Unchecked
-  rule-2 : ¬ (Free v s) → rv.0 ≡ 0 → Says n1 rv r v s First
-  rule-3 : ¬ (Free v s) → rv.0 ≢ 0 → v.0 ≢ rv.0 → Says n1 rv r v s Restart
-  rule-4-repeat : ¬ (Free v s) → rv.0 ≢ 0 → v.0 ≡ rv.0 → back r s < n1 → Says n1 rv r v s (Repeat (back r s))
-  rule-4-next : ¬ (Free v s) → rv.0 ≢ 0 → v.0 ≡ rv.0 → n1 ≤ back r s → back r s ≡ M - 1 → Says n1 rv r v s Next
-  rule-4-gap : ¬ (Free v s) → rv.0 ≢ 0 → v.0 ≡ rv.0 → n1 ≤ back r s → back r s ≢ M - 1 → Says n1 rv r v s (Gap (skipped r s))
+  rule_1 : Free v s → Says n1 rv r v s Unchecked
+  rule_2 : ¬ (Free v s) → rv.0 ≡ 0 → Says n1 rv r v s First
+  rule_3 : ¬ (Free v s) → rv.0 ≢ 0 → v.0 ≢ rv.0 → Says n1 rv r v s Restart
+  rule_4_repeat : ¬ (Free v s) → rv.0 ≢ 0 → v.0 ≡ rv.0 → back r s < n1 → Says n1 rv r v s (Repeat (back r s))
+  rule_4_next : ¬ (Free v s) → rv.0 ≢ 0 → v.0 ≡ rv.0 → n1 ≤ back r s → back r s ≡ M - 1 → Says n1 rv r v s Next
+  rule_4_gap : ¬ (Free v s) → rv.0 ≢ 0 → v.0 ≡ rv.0 → n1 ≤ back r s → back r s ≢ M - 1 → Says n1 rv r v s (Gap (skipped r s))
 
 -- "Verdicts: 1 first, 2 next, 3 restart, 4 gap, 5 unchecked, 0 where nothing is delivered."
-abbrev pub verdictNumber : Verdict → ℕ
-verdictNumber Unchecked = 5
-verdictNumber First = 1
-verdictNumber Restart = 3
-verdictNumber (Repeat d) = 0
-verdictNumber Next = 2
-verdictNumber (Gap k) = 4
+abbrev pub verdict_number : Verdict → ℕ
+verdict_number Unchecked = 5
+verdict_number First = 1
+verdict_number Restart = 3
+verdict_number (Repeat d) = 0
+verdict_number Next = 2
+verdict_number (Gap k) = 4
 
 -- How many numbers were skipped: none but in a gap.
-abbrev pub verdictSkipped : Verdict → ℕ
-verdictSkipped Unchecked = 0
-verdictSkipped First = 0
-verdictSkipped Restart = 0
-verdictSkipped (Repeat d) = 0
-verdictSkipped Next = 0
-verdictSkipped (Gap k) = k
+abbrev pub verdict_skipped : Verdict → ℕ
+verdict_skipped Unchecked = 0
+verdict_skipped First = 0
+verdict_skipped Restart = 0
+verdict_skipped (Repeat d) = 0
+verdict_skipped Next = 0
+verdict_skipped (Gap k) = k
 
 -- How far back a repeat lies: "In every other answer it is 0."
-abbrev pub verdictAge : Verdict → ℕ
-verdictAge Unchecked = 0
-verdictAge First = 0
-verdictAge Restart = 0
-verdictAge (Repeat d) = d
-verdictAge Next = 0
-verdictAge (Gap k) = 0
+abbrev pub verdict_age : Verdict → ℕ
+verdict_age Unchecked = 0
+verdict_age First = 0
+verdict_age Restart = 0
+verdict_age (Repeat d) = d
+verdict_age Next = 0
+verdict_age (Gap k) = 0
 
 -- "number check says repeat"
-abbrev pub isRepeat : Verdict → Bool
-isRepeat Unchecked = false
-isRepeat First = false
-isRepeat Restart = false
-isRepeat (Repeat d) = true
-isRepeat Next = false
-isRepeat (Gap k) = false
+abbrev pub is_repeat : Verdict → Bool
+is_repeat Unchecked = false
+is_repeat First = false
+is_repeat Restart = false
+is_repeat (Repeat d) = true
+is_repeat Next = false
+is_repeat (Gap k) = false
 
 -- "V_SEQ = 0 and SEQ = 1: unchecked. Delivery leaves RV and R."
-abbrev pub isUnchecked : Verdict → Bool
-isUnchecked Unchecked = true
-isUnchecked First = false
-isUnchecked Restart = false
-isUnchecked (Repeat d) = false
-isUnchecked Next = false
-isUnchecked (Gap k) = false
+abbrev pub is_unchecked : Verdict → Bool
+is_unchecked Unchecked = true
+is_unchecked First = false
+is_unchecked Restart = false
+is_unchecked (Repeat d) = false
+is_unchecked Next = false
+is_unchecked (Gap k) = false

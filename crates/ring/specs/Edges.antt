@@ -56,6 +56,6 @@ edges =
     ∷ itself 2147483647
     ∷ []
 
-pub every-edge : all edges ≡ true
+pub every_edge : all edges ≡ true
 unfolding newer remainder
-every-edge = refl {a = true}
+every_edge = refl {a = true}

@@ -6,12 +6,12 @@ use Rattle.std.proofs.Math.Bool.{false}
 use Rattle.std.proofs.Common.{arith}
 use Rattle.std.proofs.Math.Dec.{eqb}
 use borrow.Author.Tests.{eqb-true, eq-eqb, ne_eqb, lt-ltb, le-ltb, le-leb, ltb-true, leb-true}
-use Rattle.octets.specs.Split.{lt-or-le, eq-or-ne, same_test, both, and_left, and_right, or_left, or_right, either, not-both}
+use Rattle.octets.specs.Split.{lt_or_le, eq_or_ne, same_test, both, and_left, and_right, or_left, or_right, either, not_both}
 use Rattle.ring.specs.declared.Number.{Number}
 use Rattle.ring.specs.declared.Verdict.{Verdict}
 use Rattle.ring.specs.declared.Verdict.TheVariants.{Unchecked, First, Restart, Repeat, Next, Gap}
 use Rattle.ring.specs.Ring.{M, OnRing, remainder, skipped}
-use Rattle.ring.specs.RingLaws.{remainder-below, remainder-above}
+use Rattle.ring.specs.RingLaws.{remainder_below, remainder_above}
 use Rattle.ring.specs.Check.{rule4}
 
 -- "Normal message reception", "Duplicated message reception", "Missing message"
@@ -53,14 +53,14 @@ module _ (n1 r s : ℕ) (hr : OnRing r) (hs : OnRing s) (low : 1 ≤ n1) (high :
 
   below : s ≤ r → d ≡ r - s
   unfolding d
-  below = remainder-below r s hr hs
+  below = remainder_below r s hr hs
 
   above : r < s → d ≡ r + M - s
   unfolding d
-  above = remainder-above r s hr hs
+  above = remainder_above r s hr hs
 
-  normal-next : row1 r s || row2 r s ≡ true → d ≡ M - 1
-  normal-next e = ⊎_elim
+  normal_next : row1 r s || row2 r s ≡ true → d ≡ M - 1
+  normal_next e = ⊎_elim
       (λ (a : row1 r s ≡ true).
       let f : r + 1 ≡ s = eqb-true (r + 1) s (and_right (not (eqb r M)) (eqb (r + 1) s) a) in
       omega (arith, above (omega arith)))
@@ -70,8 +70,8 @@ module _ (n1 r s : ℕ) (hr : OnRing r) (hs : OnRing s) (low : 1 ≤ n1) (high :
       omega (arith, below (omega arith)))
       (either (row1 r s) (row2 r s) e)
 
-  next-normal : d ≡ M - 1 → row1 r s || row2 r s ≡ true
-  next-normal e = ⊎_elim
+  next_normal : d ≡ M - 1 → row1 r s || row2 r s ≡ true
+  next_normal e = ⊎_elim
       (λ (h : r < s).
       let f : eqb r M ≡ false = ne_eqb r M (λ q. omega (arith, hs.last)) in
       or_left (row1 r s) (row2 r s)
@@ -79,10 +79,10 @@ module _ (n1 r s : ℕ) (hr : OnRing r) (hs : OnRing s) (low : 1 ≤ n1) (high :
       (λ (h : s ≤ r).
       or_right (row1 r s) (row2 r s)
       (both (eqb r M) (eqb s 1) (eq-eqb r M (omega (arith, below h, hr.last, hs.first))) (eq-eqb s 1 (omega (arith, below h, hr.last, hs.first)))))
-      (lt-or-le r s)
+      (lt_or_le r s)
 
-  twice-repeat : row3 n1 r s || row4 n1 r s ≡ true → d < n1
-  twice-repeat e = ⊎_elim
+  twice_repeat : row3 n1 r s || row4 n1 r s ≡ true → d < n1
+  twice_repeat e = ⊎_elim
       (λ (a : row3 n1 r s ≡ true).
       let x = and_right (ltb n1 r) (ltb (r - n1) s && leb s r) a in
       let f : r - n1 < s = ltb-true (r - n1) s (and_left (ltb (r - n1) s) (leb s r) x) in
@@ -105,8 +105,8 @@ module _ (n1 r s : ℕ) (hr : OnRing r) (hs : OnRing s) (low : 1 ≤ n1) (high :
       far : Bool
       far = ltb (M - (n1 - r)) s && leb s M
 
-  repeat-twice : d < n1 → row3 n1 r s || row4 n1 r s ≡ true
-  repeat-twice e = ⊎_elim
+  repeat_twice : d < n1 → row3 n1 r s || row4 n1 r s ≡ true
+  repeat_twice e = ⊎_elim
       (λ (h : r < s).
       let y : r ≤ n1 = omega (arith, above h, hs.last) in
       let far : ltb (M - (n1 - r)) s && leb s M ≡ true
@@ -122,36 +122,36 @@ module _ (n1 r s : ℕ) (hr : OnRing r) (hs : OnRing s) (low : 1 ≤ n1) (high :
       or_right (row3 n1 r s) (row4 n1 r s)
       (both (leb r n1) _ (le-leb r n1 y)
       (or_left (ltb 0 s && leb s r) (ltb (M - (n1 - r)) s && leb s M) (both (ltb 0 s) (leb s r) (lt-ltb 0 s hs.first) (le-leb s r h)))))
-      (lt-or-le n1 r))
-      (lt-or-le r s)
+      (lt_or_le n1 r))
+      (lt_or_le r s)
 
-  normal-is : row1 r s || row2 r s ≡ eqb d (M - 1)
-  normal-is = same_test (row1 r s || row2 r s) (eqb d (M - 1))
-      (λ e. eq-eqb d (M - 1) (normal-next e)) (λ e. next-normal (eqb-true d (M - 1) e))
+  normal_is : row1 r s || row2 r s ≡ eqb d (M - 1)
+  normal_is = same_test (row1 r s || row2 r s) (eqb d (M - 1))
+      (λ e. eq-eqb d (M - 1) (normal_next e)) (λ e. next_normal (eqb-true d (M - 1) e))
 
-  duplicated-is : row3 n1 r s || row4 n1 r s ≡ ltb d n1
-  duplicated-is = same_test (row3 n1 r s || row4 n1 r s) (ltb d n1)
-      (λ e. lt-ltb d n1 (twice-repeat e)) (λ e. repeat-twice (ltb-true d n1 e))
+  duplicated_is : row3 n1 r s || row4 n1 r s ≡ ltb d n1
+  duplicated_is = same_test (row3 n1 r s || row4 n1 r s) (ltb d n1)
+      (λ e. lt-ltb d n1 (twice_repeat e)) (λ e. repeat_twice (ltb-true d n1 e))
 
   -- No message is both normal and duplicated, so the order of the rows is no matter.
   pub rows_apart : (row1 r s || row2 r s) && (row3 n1 r s || row4 n1 r s) ≡ false
-  rows_apart = not-both (row1 r s || row2 r s) (row3 n1 r s || row4 n1 r s)
-      (λ e f. omega (arith, normal-next e, twice-repeat f))
+  rows_apart = not_both (row1 r s || row2 r s) (row3 n1 r s || row4 n1 r s)
+      (λ e f. omega (arith, normal_next e, twice_repeat f))
 
   -- Rule 4's tests, whatever is said of a repeat and of a gap.
-  tests-are : (j k : ℕ) → result (cond (ltb d n1) (Repeat j) (cond (eqb d (M - 1)) Next (Gap k))) ≡ table14 n1 r s
+  tests_are : (j k : ℕ) → result (cond (ltb d n1) (Repeat j) (cond (eqb d (M - 1)) Next (Gap k))) ≡ table14 n1 r s
   unfolding table14
-  tests-are j k = ⊎_elim
+  tests_are j k = ⊎_elim
       (λ (h : d < n1).
       let x : eqb d (M - 1) ≡ false = ne_eqb d (M - 1) (λ e. omega arith) in
-      simp (normal-is, duplicated-is, lt-ltb d n1 h, x))
+      simp (normal_is, duplicated_is, lt-ltb d n1 h, x))
       (λ (h : n1 ≤ d). ⊎_elim
-      (λ (e : d ≡ M - 1). simp (normal-is, duplicated-is, le-ltb d n1 h, eq-eqb d (M - 1) e))
-      (λ (e : d ≢ M - 1). simp (normal-is, duplicated-is, le-ltb d n1 h, ne_eqb d (M - 1) e))
-      (eq-or-ne d (M - 1)))
-      (lt-or-le d n1)
+      (λ (e : d ≡ M - 1). simp (normal_is, duplicated_is, le-ltb d n1 h, eq-eqb d (M - 1) e))
+      (λ (e : d ≢ M - 1). simp (normal_is, duplicated_is, le-ltb d n1 h, ne_eqb d (M - 1) e))
+      (eq_or_ne d (M - 1)))
+      (lt_or_le d n1)
 
-pub rule4-is-table14 : (n1 : ℕ) (r s : Number) → OnRing r.0 → OnRing s.0 → 1 ≤ n1 → n1 ≤ 1024
+pub rule4_is_table14 : (n1 : ℕ) (r s : Number) → OnRing r.0 → OnRing s.0 → 1 ≤ n1 → n1 ≤ 1024
     → result (rule4 n1 r s) ≡ table14 n1 r.0 s.0
 unfolding rule4 d
-rule4-is-table14 n1 r s hr hs low high = tests-are n1 r.0 s.0 hr hs low high (remainder r.0 s.0) (skipped r s)
+rule4_is_table14 n1 r s hr hs low high = tests_are n1 r.0 s.0 hr hs low high (remainder r.0 s.0) (skipped r s)

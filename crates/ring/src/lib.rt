@@ -4,8 +4,8 @@
 // Every function is total: a number outside 1 to M is taken modulo M.
 ghost use Rattle.std.specs.Prelude.{◌≡◌, cond, ◌-◌, ◌%◌, ◌<◌, eqb, ltb};
 ghost use Rattle.ring.specs.declared.Verdict.TheVariants.{Repeat, Next, Gap};
-ghost use Rattle.ring.specs.Ring.{M as last, back as backOf, newer as isNewer, is_number};
-ghost use Rattle.ring.specs.Check.{check, verdictNumber, verdictSkipped, verdictAge, isRepeat, isUnchecked};
+ghost use Rattle.ring.specs.Ring.{M as last, back as back_of, newer as is_newer, is_number};
+ghost use Rattle.ring.specs.Check.{check, verdict_number, verdict_skipped, verdict_age, is_repeat, is_unchecked};
 
 // V_SEQ: any 32-bit number.
 #[repr(C)]
@@ -46,7 +46,7 @@ impl Number {
 
 // How far back s lies behind r, 0 to M - 1.
 pub fn back(r: Number, s: Number) -> u32
-    ensures { result ≡ backOf r s }
+    ensures { result ≡ back_of r s }
 {
     let a = on_ring(r.0);
     let b = on_ring(s.0);
@@ -62,7 +62,7 @@ fn on_ring(x: u32) -> u32
 
 // Whether a is newer than b: 1 to HALF on from it. Of one number, as with every piece that joins, no way is measured.
 pub fn newer(a: Number, b: Number) -> bool
-    ensures { result ≡ isNewer a b }
+    ensures { result ≡ is_newer a b }
 {
     if a.0 == b.0 {
         return false;
@@ -104,7 +104,7 @@ fn by_distance(n1: u16, d: u32) -> Verdict
 impl Verdict {
     // The number that is printed: 0 where nothing is delivered.
     pub fn printed(self) -> u8
-        ensures { result ≡ verdictNumber self }
+        ensures { result ≡ verdict_number self }
     {
         match self {
             Verdict::First => 1,
@@ -118,7 +118,7 @@ impl Verdict {
 
     // How many numbers were skipped.
     pub fn skipped(self) -> u32
-        ensures { result ≡ verdictSkipped self }
+        ensures { result ≡ verdict_skipped self }
     {
         match self {
             Verdict::Gap(k) => k,
@@ -132,7 +132,7 @@ impl Verdict {
 
     // How far back a repeat lies.
     pub fn age(self) -> u32
-        ensures { result ≡ verdictAge self }
+        ensures { result ≡ verdict_age self }
     {
         match self {
             Verdict::Repeat(d) => d,
@@ -145,7 +145,7 @@ impl Verdict {
     }
 
     pub fn is_repeat(self) -> bool
-        ensures { result ≡ isRepeat self }
+        ensures { result ≡ is_repeat self }
     {
         match self {
             Verdict::Unchecked => false,
@@ -158,7 +158,7 @@ impl Verdict {
     }
 
     pub fn is_unchecked(self) -> bool
-        ensures { result ≡ isUnchecked self }
+        ensures { result ≡ is_unchecked self }
     {
         match self {
             Verdict::Unchecked => true,

@@ -3,11 +3,11 @@
 //
 // Every public function is total: the record need not be within its limits.
 ghost use Rattle.std.specs.Prelude.{◌≡◌, true, not, ◌&&◌, [], ◌∷◌};
-ghost use Rattle.ring.specs.Ring.{newer as isNewer};
-ghost use Rattle.cut.specs.Possible.{possible as isPossible};
+ghost use Rattle.ring.specs.Ring.{newer as is_newer};
+ghost use Rattle.cut.specs.Possible.{possible as is_possible};
 ghost use Rattle.map.specs.Map.{holds as holds_of};
-ghost use Rattle.answers.specs.Told.{ageWith, refusal as refused};
-ghost use Rattle.rules.specs.calls.Admit.{rejoins as isRejoining, sameCut, senderRows, sameVersion, mapAfter, keptAfter, droppedBy, last_by, closed, messageOf, opened as isOpened, admitted, notAdmitted, admission, verdictOf};
+ghost use Rattle.answers.specs.Told.{age_with, refusal as refused};
+ghost use Rattle.rules.specs.calls.Admit.{rejoins as is_rejoining, same_cut, sender_rows, same_version, map_after, kept_after, dropped_by, last_by, closed, message_of, opened as is_opened, admitted, not_admitted, admission, verdict_of};
 ghost use Rattle.rules.specs.calls.First.{row, first};
 
 use answers::{Admission, Dropped, Outcome};
@@ -30,7 +30,7 @@ pub fn admit(s: Sender, test: bool, n1: u16, clock: u64, h: Head) -> Admission
 
 // A refusal alters nothing.
 fn refused_by(s: Sender, n1: u16, h: Head, number: u8) -> Admission
-    ensures { result ≡ notAdmitted s (refused number (verdictOf n1 s h)) }
+    ensures { result ≡ not_admitted s (refused number (verdict_of n1 s h)) }
 {
     let age = age_with(s, n1, h, number);
     Admission {
@@ -43,7 +43,7 @@ fn refused_by(s: Sender, n1: u16, h: Head, number: u8) -> Admission
 
 // How old a repeat is: with another number nobody asks.
 fn age_with(s: Sender, n1: u16, h: Head, number: u8) -> u32
-    ensures { result ≡ ageWith number (verdictOf n1 s h) }
+    ensures { result ≡ age_with number (verdict_of n1 s h) }
 {
     if number == 17 {
         verdict(s, n1, h).age()
@@ -56,7 +56,7 @@ fn age_with(s: Sender, n1: u16, h: Head, number: u8) -> u32
 
 // The first of 15 to 20 that applies, or 0.
 fn refusal(s: Sender, test: bool, n1: u16, h: Head) -> u8
-    ensures { result ≡ first (senderRows test n1 s h) }
+    ensures { result ≡ first (sender_rows test n1 s h) }
 {
     let given = h.given;
     let cut = h.cut;
@@ -74,7 +74,7 @@ fn refusal(s: Sender, test: bool, n1: u16, h: Head) -> u8
 
 // The first of 18 to 20 that applies, or 0: only a message that is open, of the PDU's version, is looked at.
 fn open_number(s: Sender, h: Head) -> u8
-    ensures { result ≡ first (row 18 (s.«open» && sameVersion s h && isNewer s.message.number h.given.number) ∷ row 19 (isRejoining s h && not (sameCut s.message h)) ∷ row 20 (isRejoining s h && holds_of s.message.map h.cut.cbn) ∷ []) }
+    ensures { result ≡ first (row 18 (s.«open» && same_version s h && is_newer s.message.number h.given.number) ∷ row 19 (is_rejoining s h && not (same_cut s.message h)) ∷ row 20 (is_rejoining s h && holds_of s.message.map h.cut.cbn) ∷ []) }
 {
     let m = s.message;
     let given = h.given;
@@ -96,7 +96,7 @@ fn open_number(s: Sender, h: Head) -> u8
 
 // What the number check says.
 fn verdict(s: Sender, n1: u16, h: Head) -> Verdict
-    ensures { result ≡ verdictOf n1 s h }
+    ensures { result ≡ verdict_of n1 s h }
 {
     let last = s.last;
     let given = h.given;
@@ -105,7 +105,7 @@ fn verdict(s: Sender, n1: u16, h: Head) -> Verdict
 
 // Whether the open message has the PDU's version and number.
 fn rejoins(s: Sender, h: Head) -> bool
-    ensures { result ≡ isRejoining s h }
+    ensures { result ≡ is_rejoining s h }
 {
     let m = s.message;
     let given = h.given;
@@ -113,7 +113,7 @@ fn rejoins(s: Sender, h: Head) -> bool
 }
 
 fn same_cut(m: Message, h: Head) -> bool
-    ensures { result ≡ sameCut m h }
+    ensures { result ≡ same_cut m h }
 {
     let cut = h.cut;
     let given = h.given;
@@ -126,7 +126,7 @@ fn same_cut(m: Message, h: Head) -> bool
 // ---- what an admitted PDU does
 
 fn admitted_by(s: Sender, n1: u16, clock: u64, h: Head) -> Admission
-    requires { isPossible h.cut ≡ true }
+    requires { is_possible h.cut ≡ true }
     ensures { result ≡ admitted n1 clock s h }
 {
     let cut = h.cut;
@@ -154,7 +154,7 @@ fn admitted_by(s: Sender, n1: u16, clock: u64, h: Head) -> Admission
 
 // The map of the message that the PDU belongs to, with its piece.
 fn map_after(s: Sender, h: Head) -> u64
-    ensures { result ≡ mapAfter s h }
+    ensures { result ≡ map_after s h }
 {
     let m = s.message;
     let cut = h.cut;
@@ -167,7 +167,7 @@ fn map_after(s: Sender, h: Head) -> u64
 // How many pieces of that message are then held: one more than was kept, and nothing is counted. A record outside its
 // limits may have 255 kept.
 fn kept_after(s: Sender, h: Head) -> u8
-    ensures { result ≡ keptAfter s h }
+    ensures { result ≡ kept_after s h }
 {
     let m = s.message;
     if !rejoins(s, h) {
@@ -178,7 +178,7 @@ fn kept_after(s: Sender, h: Head) -> u8
 
 // The open message, where the PDU has another version, or the same version and a newer number.
 fn dropped_by(s: Sender, h: Head) -> Dropped
-    ensures { result ≡ droppedBy s h }
+    ensures { result ≡ dropped_by s h }
 {
     let m = s.message;
     let given = h.given;
@@ -215,16 +215,16 @@ fn last_after(s: Sender, v: Verdict, h: Head) -> Last
 
 // The record with the message open, this map and this number of pieces held.
 fn opened(s: Sender, clock: u64, map: u64, held: u8, h: Head) -> Sender
-    requires { isPossible h.cut ≡ true }
-    ensures { result ≡ isOpened s (messageOf clock map held h) }
+    requires { is_possible h.cut ≡ true }
+    ensures { result ≡ is_opened s (message_of clock map held h) }
 {
     let message = message_of(clock, map, held, h);
     s.with_message(true, message)
 }
 
 fn message_of(clock: u64, map: u64, held: u8, h: Head) -> Message
-    requires { isPossible h.cut ≡ true }
-    ensures { result ≡ messageOf clock map held h }
+    requires { is_possible h.cut ≡ true }
+    ensures { result ≡ message_of clock map held h }
 {
     let given = h.given;
     let cut = h.cut;

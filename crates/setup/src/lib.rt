@@ -1,14 +1,14 @@
 // Setup: the state that a node starts with.
 ghost use Rattle.std.specs.Prelude.{◌≡◌, true, cond, ◌≤◌};
-ghost use Rattle.rules.specs.calls.Setup.{setupWithin, setupState, setupAnswer};
-ghost use Rattle.setup.specs.private.Settled.{settled as settledBy};
-ghost use Rattle.state.specs.State.{sendersMost, emptyReceiver};
+ghost use Rattle.rules.specs.calls.Setup.{setup_within, setup_state, setup_answer};
+ghost use Rattle.setup.specs.private.Settled.{settled as settled_by};
+ghost use Rattle.state.specs.State.{senders_most, empty_receiver};
 
 use answers::{Call, Setup, Started};
 use state::{Address, Receiver, Sender};
 
 pub fn setup(q: Setup) -> Started
-    ensures { result ≡ setupAnswer q }
+    ensures { result ≡ setup_answer q }
 {
     let within = setup_within(q);
     let state = new_state(q, within);
@@ -25,7 +25,7 @@ pub fn setup(q: Setup) -> Started
 }
 
 fn setup_within(q: Setup) -> bool
-    ensures { result ≡ setupWithin q }
+    ensures { result ≡ setup_within q }
 {
     let senders = q.senders;
     let groups = q.groups;
@@ -39,7 +39,7 @@ fn setup_within(q: Setup) -> bool
 
 // The empty state, or for a setup within its limits one with its settings.
 fn settled(q: Setup, within: bool) -> Receiver
-    ensures { result ≡ settledBy q within }
+    ensures { result ≡ settled_by q within }
 {
     let mut state = Receiver::empty();
     if !within {
@@ -58,8 +58,8 @@ fn settled(q: Setup, within: bool) -> Receiver
 // Both answers' states come out of one loop: a state that is built in two places is copied field by field wherever it
 // goes.
 fn new_state(q: Setup, within: bool) -> Receiver
-    requires { within ≡ true → q.count ≤ sendersMost }
-    ensures { result ≡ cond within (setupState q) emptyReceiver }
+    requires { within ≡ true → q.count ≤ senders_most }
+    ensures { result ≡ cond within (setup_state q) empty_receiver }
 {
     let mut state = settled(q, within);
     let count = state.count;

@@ -3,20 +3,20 @@
 use Rattle.std.specs.Prelude.{Bool, ◌&&◌, List, ℕ, ◌%◌, eqb}
 use Rattle.octets.specs.Number.{number}
 use Rattle.signal.specs.declared.Body.{Body}
-use Rattle.signal.specs.AlivePlaces.{AliveField, alivePlace}
-use Rattle.signal.specs.AlivePlaces.AliveField.{alTmOut, alMode, alProtocol, alVer}
+use Rattle.signal.specs.AlivePlaces.{AliveField, alive_place}
+use Rattle.signal.specs.AlivePlaces.AliveField.{al_tm_out, al_mode, al_protocol, al_ver}
 use Rattle.header.specs.Codes.{within}
 
 -- The number at a field's place.
-abbrev pub aliveValue : List ℕ → AliveField → ℕ
-aliveValue s f = number (alivePlace f).1 s (alivePlace f).0
+abbrev pub alive_value : List ℕ → AliveField → ℕ
+alive_value s f = number (alive_place f).1 s (alive_place f).0
 
 unfoldable pub body_of : List ℕ → Body
-body_of s = record { timeout = aliveValue s alTmOut; mode = aliveValue s alMode; protocol = aliveValue s alProtocol; ver = aliveValue s alVer }
+body_of s = record { timeout = alive_value s al_tm_out; mode = alive_value s al_mode; protocol = alive_value s al_protocol; ver = alive_value s al_ver }
 
 -- "al_protocol is 4, al_ver 1, al_mode 1 to 3"
-unfoldable pub isBody : Body → Bool
-isBody b = eqb b.protocol 4 && eqb b.ver 1 && within 1 3 b.mode
+unfoldable pub is_body : Body → Bool
+is_body b = eqb b.protocol 4 && eqb b.ver 1 && within 1 3 b.mode
 
 -- The group of a destination address: its last two octets.
 abbrev pub group_of : ℕ → ℕ

@@ -3,7 +3,7 @@
 //
 // Every function is total. An octet past the end of a packet reads as 0.
 ghost use Rattle.std.specs.Prelude.{◌≡◌};
-ghost use Rattle.signal.specs.Alive.{body_of, isBody, group_of};
+ghost use Rattle.signal.specs.Alive.{body_of, is_body, group_of};
 
 pub mod places;
 
@@ -26,7 +26,7 @@ pub struct Body {
 
 impl Body {
     pub fn within(self) -> bool
-        ensures { result ≡ isBody self }
+        ensures { result ≡ is_body self }
     {
         (self.protocol == 4) & (self.ver == 1) & ((1 <= self.mode) & (self.mode <= 3))
     }

@@ -4,50 +4,50 @@ use Rattle.std.proofs.Common.{◌∙◌, ⊎_elim, lt-ltb, le-ltb}
 use Rattle.std.proofs.Math.Bool.{and-false}
 use Rattle.std.specs.Int.Count.{ones}
 use Rattle.std.proofs.Math.ListN.{get_or-eq_default}
-use Rattle.octets.specs.Split.{true-or-false}
+use Rattle.octets.specs.Split.{true_or_false}
 use Rattle.state.specs.declared.Receiver.{Receiver}
 use Rattle.state.specs.Held.{held_at}
 use Rattle.state.specs.Limits.{valid}
-use Rattle.state.specs.State.{noSender, senderAt}
-use Rattle.state.specs.WithinLaws.{message-facts, valid-sender}
+use Rattle.state.specs.State.{no_sender, sender_at}
+use Rattle.state.specs.WithinLaws.{message_facts, valid_sender}
 
 module _ (w : Receiver) (i : ℕ) where
-  pub held-open : i < w.count → (senderAt w i).«open» ≡ true → held_at w i ≡ (senderAt w i).message.held
+  pub held_open : i < w.count → (sender_at w i).«open» ≡ true → held_at w i ≡ (sender_at w i).message.held
   unfolding held_at
-  held-open here is = rw (lt-ltb i w.count here, is)
+  held_open here is = rw (lt-ltb i w.count here, is)
 
-  pub held-shut : (senderAt w i).«open» ≡ false → held_at w i ≡ 0
+  pub held_shut : (sender_at w i).«open» ≡ false → held_at w i ≡ 0
   unfolding held_at
-  held-shut is = rw (is, and-false (ltb i w.count))
+  held_shut is = rw (is, and-false (ltb i w.count))
 
-  pub held-past : w.count ≤ i → held_at w i ≡ 0
+  pub held_past : w.count ≤ i → held_at w i ≡ 0
   unfolding held_at
-  held-past past = rw (le-ltb i w.count past)
+  held_past past = rw (le-ltb i w.count past)
 
   -- No sender stands past the table.
-  pub held-beyond : length w.senders ≤ i → held_at w i ≡ 0
-  held-beyond past =
-      let none : senderAt w i ≡ noSender = get_or-eq_default w.senders noSender past in
-      held-shut (rw none)
+  pub held_beyond : length w.senders ≤ i → held_at w i ≡ 0
+  held_beyond past =
+      let none : sender_at w i ≡ no_sender = get_or-eq_default w.senders no_sender past in
+      held_shut (rw none)
 
   -- ---- 9
 
-  abbrev ones-here : ℕ
-  ones-here = ones (senderAt w i).message.map
+  abbrev ones_here : ℕ
+  ones_here = ones (sender_at w i).message.map
 
   -- In a state within its limits it is "equal to the number of ones in the map",
-  pub kept-is-ones : valid w ≡ true → i < w.count → (senderAt w i).«open» ≡ true → (senderAt w i).message.held ≡ ones-here
-  kept-is-ones ok here is = (message-facts w.clock (senderAt w i).message ((valid-sender w ok i here).message is)).held
+  pub kept_is_ones : valid w ≡ true → i < w.count → (sender_at w i).«open» ≡ true → (sender_at w i).message.held ≡ ones_here
+  kept_is_ones ok here is = (message_facts w.clock (sender_at w i).message ((valid_sender w ok i here).message is)).held
 
-  pub held-is-ones : valid w ≡ true → i < w.count → held_at w i ≡ cond (senderAt w i).«open» ones-here 0
-  held-is-ones ok here = ⊎_elim
-      (λ (is : (senderAt w i).«open» ≡ true). rw is (held-open here is ∙ kept-is-ones ok here is))
-      (λ (no : (senderAt w i).«open» ≡ false). rw no (held-shut no))
-      (true-or-false (senderAt w i).«open»)
+  pub held_is_ones : valid w ≡ true → i < w.count → held_at w i ≡ cond (sender_at w i).«open» ones_here 0
+  held_is_ones ok here = ⊎_elim
+      (λ (is : (sender_at w i).«open» ≡ true). rw is (held_open here is ∙ kept_is_ones ok here is))
+      (λ (no : (sender_at w i).«open» ≡ false). rw no (held_shut no))
+      (true_or_false (sender_at w i).«open»)
 
   -- and "a state where they differ meets 9".
-  pub differ-nine : i < w.count → (senderAt w i).«open» ≡ true → (senderAt w i).message.held ≢ ones-here → valid w ≡ false
-  differ-nine here is differ = ⊎_elim
-      (λ (ok : valid w ≡ true). absurd (differ (kept-is-ones ok here is)))
+  pub differ_nine : i < w.count → (sender_at w i).«open» ≡ true → (sender_at w i).message.held ≢ ones_here → valid w ≡ false
+  differ_nine here is differ = ⊎_elim
+      (λ (ok : valid w ≡ true). absurd (differ (kept_is_ones ok here is)))
       (λ no. no)
-      (true-or-false (valid w))
+      (true_or_false (valid w))

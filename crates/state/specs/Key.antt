@@ -10,6 +10,6 @@ abbrev pub Narrow : Address → Type 0
 Narrow a = a.node.0 < 65536
 
 -- None of the first k numbers is this one.
-unfoldable pub newKey : List ℕ → ℕ → ℕ → Bool
-newKey l zero x = true
-newKey l (suc k) x = newKey l k x && not (eqb (get_or l k 0) x)
+unfoldable pub new_key : List ℕ → ℕ → ℕ → Bool
+new_key l zero x = true
+new_key l (suc k) x = new_key l k x && not (eqb (get_or l k 0) x)

@@ -3,11 +3,11 @@
 //
 // What is not open, not alive or past the senders is written 0 and never looked at.
 ghost use Rattle.std.specs.Prelude.{◌≡◌, cond, not, ◌||◌, ◌+◌, ◌<◌, ltb};
-ghost use Rattle.state.specs.Limits.{isAddress, sameAddress, lastWithin, messageWithin, senderWithin, settingsWithin, addressesWithin, valid};
-ghost use Rattle.state.specs.Key.{key_of, Narrow, newKey};
+ghost use Rattle.state.specs.Limits.{is_address, same_address, last_within, message_within, sender_within, settings_within, addresses_within, valid};
+ghost use Rattle.state.specs.Key.{key_of, Narrow, new_key};
 ghost use Rattle.state.specs.Held.{held_at};
-ghost use Rattle.state.specs.Table.{source, lookAt};
-ghost use Rattle.state.specs.State.{sendersMost, newSender, withMessage, withHeard, with_last, emptyReceiver};
+ghost use Rattle.state.specs.Table.{source, look_at};
+ghost use Rattle.state.specs.State.{senders_most, new_sender, with_message, with_heard, with_last, empty_receiver};
 
 use cut::pieces::MOST_OCTETS;
 use cut::possible::several;
@@ -98,7 +98,7 @@ impl Address {
     }
 
     pub fn within(self) -> bool
-        ensures { result ≡ isAddress self }
+        ensures { result ≡ is_address self }
     {
         let field = self.field;
         let node = self.node;
@@ -106,7 +106,7 @@ impl Address {
     }
 
     pub fn same(self, other: Address) -> bool
-        ensures { result ≡ sameAddress self other }
+        ensures { result ≡ same_address self other }
     {
         (self.field.0 == other.field.0) & (self.node.0 == other.node.0)
     }
@@ -121,7 +121,7 @@ impl Address {
 
     // Whether the first count addresses are within their limits, and none stands there twice.
     pub fn all_within(senders: [Address; Receiver::PLACES], count: u8) -> bool
-        ensures { result ≡ addressesWithin senders count }
+        ensures { result ≡ addresses_within senders count }
     {
         if Receiver::PLACES < count as usize {
             return false;
@@ -148,7 +148,7 @@ impl Last {
 
     // R is at most M, and not 0 under a version not 0.
     pub fn within(self) -> bool
-        ensures { result ≡ lastWithin self }
+        ensures { result ≡ last_within self }
     {
         (self.number.0 <= M) & ((self.version.0 == 0) | (0 < self.number.0))
     }
@@ -168,7 +168,7 @@ impl Message {
     };
 
     pub fn within(self, clock: u64) -> bool
-        ensures { result ≡ messageWithin clock self }
+        ensures { result ≡ message_within clock self }
     {
         let number = self.number;
         number.within()
@@ -199,7 +199,7 @@ impl Sender {
 
     // A sender at setup: not heard, nothing open, nothing delivered.
     pub fn new(address: Address) -> Sender
-        ensures { result ≡ newSender address }
+        ensures { result ≡ new_sender address }
     {
         let mut new = Sender::NONE;
         new.address = address;
@@ -207,7 +207,7 @@ impl Sender {
     }
 
     pub fn with_message(mut self, open: bool, message: Message) -> Sender
-        ensures { result ≡ withMessage self «open» message }
+        ensures { result ≡ with_message self «open» message }
     {
         self.open = open;
         self.message = message;
@@ -215,7 +215,7 @@ impl Sender {
     }
 
     pub fn with_heard(mut self, alive: bool, heard: Heard) -> Sender
-        ensures { result ≡ withHeard self alive heard }
+        ensures { result ≡ with_heard self alive heard }
     {
         self.alive = alive;
         self.heard = heard;
@@ -230,7 +230,7 @@ impl Sender {
     }
 
     pub fn within(self, clock: u64) -> bool
-        ensures { result ≡ senderWithin clock self }
+        ensures { result ≡ sender_within clock self }
     {
         let address = self.address;
         let last = self.last;
@@ -242,7 +242,7 @@ impl Sender {
 
     // Only an open message is looked at.
     fn message_within(self, clock: u64) -> bool
-        ensures { result ≡ (not self.«open» || messageWithin clock self.message) }
+        ensures { result ≡ (not self.«open» || message_within clock self.message) }
     {
         let message = self.message;
         if self.open {
@@ -268,7 +268,7 @@ impl Receiver {
 
     // What a refused setup returns: no senders.
     pub fn empty() -> Self
-        ensures { result ≡ emptyReceiver }
+        ensures { result ≡ empty_receiver }
     {
         Receiver {
             test: false,
@@ -291,7 +291,7 @@ impl Receiver {
 
     // The settings, the clock and the count; of the states without senders only the empty one passes, at any time.
     fn settings_within(self) -> bool
-        ensures { result ≡ settingsWithin self }
+        ensures { result ≡ settings_within self }
     {
         let groups = self.groups;
         (self.clock <= Receiver::CLOCK_MOST)
@@ -322,7 +322,7 @@ impl Receiver {
     // One pass over the table, for the calls that need both: whether the state is within its limits, and if it is, at
     // which place the sender with this address stands; the count if none has it.
     pub fn look(self, a: Address) -> Look
-        ensures { result ≡ lookAt self a }
+        ensures { result ≡ look_at self a }
     {
         let count = self.count;
         if Receiver::PLACES < count as usize {
@@ -366,7 +366,7 @@ impl Look {
     // The place that was found, once the sender at place i was looked at too; how many were looked at if it was none of
     // them.
     fn next_place(at: u8, i: u8, here: bool) -> u8
-        requires { i < sendersMost }
+        requires { i < senders_most }
         ensures { result ≡ cond (ltb at i) at (cond here i (i + 1)) }
     {
         if at < i {
@@ -379,7 +379,7 @@ impl Look {
 // Whether none of the keys is this one. Places that hold none yet are 0, and no sender's key is: so the count is
 // constant, and all are compared at once.
 pub fn fresh(seen: &[u32; Receiver::PLACES], key: u32) -> bool
-    ensures { result ≡ newKey seen.now sendersMost key }
+    ensures { result ≡ new_key seen.now senders_most key }
 {
     let mut new = true;
     let mut j: usize = 0;

@@ -5,8 +5,8 @@
 // the call is the receiver's, and the counting is `counted`, by value. Any record, any state, any storage and any
 // octets may come.
 ghost use Rattle.std.specs.Prelude.{◌≡◌, ◌+◌, length};
-ghost use Rattle.rules.specs.calls.Message.{messageAnswer, messageStorage};
-ghost use Rattle.tally.specs.Tally.{stopping, counted as countedOf};
+ghost use Rattle.rules.specs.calls.Message.{message_answer, message_storage};
+ghost use Rattle.tally.specs.Tally.{stopping, counted as counted_of};
 
 use answers::{Answer, Outcome};
 use state::Receiver;
@@ -31,9 +31,9 @@ impl Tally {
 
 // The message call, and its answer counted.
 pub fn message(tally: &mut Tally, state: Receiver, storage: &mut [u8], packet: &[u8]) -> Answer
-    ensures answer { result ≡ messageAnswer state (length storage.old) packet.now }
-    ensures stored { storage.new ≡ messageStorage state storage.old packet.now }
-    ensures tallied { tally.new ≡ countedOf tally.old result.outcome }
+    ensures answer { result ≡ message_answer state (length storage.old) packet.now }
+    ensures stored { storage.new ≡ message_storage state storage.old packet.now }
+    ensures tallied { tally.new ≡ counted_of tally.old result.outcome }
 {
     let a = receiver::message::message(state, storage, packet);
     let outcome = a.outcome;
@@ -43,7 +43,7 @@ pub fn message(tally: &mut Tally, state: Receiver, storage: &mut [u8], packet: &
 
 // "one count of answers 0 and 1, one of refusals"
 pub fn counted(tally: Tally, outcome: Outcome) -> Tally
-    ensures { result ≡ countedOf tally outcome }
+    ensures { result ≡ counted_of tally outcome }
 {
     let answers = tally.answers;
     let refusals = tally.refusals;

@@ -9,7 +9,7 @@ use Rattle.state.specs.declared.Last.{Last}
 use Rattle.state.specs.declared.Message.{Message}
 use Rattle.state.specs.declared.Receiver.{Receiver}
 use Rattle.state.specs.declared.Sender.{Sender}
-use Rattle.state.specs.State.{sendersMost, senderAt, Settings, state_of}
+use Rattle.state.specs.State.{senders_most, sender_at, Settings, state_of}
 use Rattle.words.specs.declared.Record.{Record}
 
 -- ---- the table
@@ -25,15 +25,15 @@ each = 10
 abbrev pub place : ℕ → ℕ
 place i = before + i * each
 
-abbrev pub wordsMost : ℕ
-wordsMost = place sendersMost
+abbrev pub words_most : ℕ
+words_most = place senders_most
 
 abbrev pub word : List ℕ → ℕ → ℕ
 word l k = get_or l k 0
 
 -- The ten words of one sender, in their order.
-abbrev pub recordIn : List ℕ → Record
-recordIn l = record {
+abbrev pub record_in : List ℕ → Record
+record_in l = record {
   address = word l 0;
   last = word l 1;
   «open» = word l 2;
@@ -46,25 +46,25 @@ recordIn l = record {
   timeout = word l 9;
 }
 
-abbrev pub recordWords : Record → List ℕ
-recordWords r =
+abbrev pub record_words : Record → List ℕ
+record_words r =
     r.address ∷ r.last ∷ r.«open» ∷ r.message ∷ r.cut ∷ r.map ∷ r.stamp ∷ r.alive ∷ r.heard ∷ r.timeout ∷ []
 
-abbrev pub noRecord : Record
-noRecord = recordIn []
+abbrev pub no_record : Record
+no_record = record_in []
 
 -- The words of the sender at a place; none where there are not so many.
-unfoldable pub recordAt : List ℕ → ℕ → Record
-recordAt l i = cond (leb (place i + each) (length l)) (recordIn (drop (place i) l)) noRecord
+unfoldable pub record_at : List ℕ → ℕ → Record
+record_at l i = cond (leb (place i + each) (length l)) (record_in (drop (place i) l)) no_record
 
 -- ---- what one word says
 
 -- "each a data field and a node", as the header has them: one octet, and two behind it.
-abbrev pub addressIn : ℕ → Address
-addressIn w = record { field = record { 0 = w / 65536 }; node = record { 0 = w % 65536 } }
+abbrev pub address_in : ℕ → Address
+address_in w = record { field = record { 0 = w / 65536 }; node = record { 0 = w % 65536 } }
 
-abbrev pub addressWord : Address → ℕ
-addressWord a = a.field.0 * 65536 + a.node.0
+abbrev pub address_word : Address → ℕ
+address_word a = a.field.0 * 65536 + a.node.0
 
 -- A version and a number, as the header has them: four octets each.
 abbrev pub half : ℕ
@@ -74,12 +74,12 @@ abbrev pub pair : ℕ → ℕ → ℕ
 pair version number = version * half + number
 
 -- TCD, n and u, two octets each; how many pieces are held and TBN, one each.
-abbrev pub cutWord : Message → ℕ
-cutWord m = m.tcd * 281474976710656 + m.n * half + m.u * 65536 + m.held * 256 + m.tbn
+abbrev pub cut_word : Message → ℕ
+cut_word m = m.tcd * 281474976710656 + m.n * half + m.u * 65536 + m.held * 256 + m.tbn
 
 -- The groups, an octet each, the first lowest.
-abbrev pub groupsIn : ℕ → ℕ → Groups
-groupsIn count w = record {
+abbrev pub groups_in : ℕ → ℕ → Groups
+groups_in count w = record {
   count = count;
   list = record { 0 = w % 256 } ∷ record { 0 = w / 256 % 256 } ∷ record { 0 = w / 65536 % 256 } ∷ record { 0 = w / 16777216 % 256 }
       ∷ record { 0 = w / half % 256 } ∷ record { 0 = w / 1099511627776 % 256 } ∷ record { 0 = w / 281474976710656 % 256 }
@@ -87,19 +87,19 @@ groupsIn count w = record {
 }
 
 -- Four of them from a place on.
-abbrev pub fourAt : Groups → ℕ → ℕ
-fourAt g k = number_at g (k + 3) * 16777216 + number_at g (k + 2) * 65536 + number_at g (k + 1) * 256 + number_at g k
+abbrev pub four_at : Groups → ℕ → ℕ
+four_at g k = number_at g (k + 3) * 16777216 + number_at g (k + 2) * 65536 + number_at g (k + 1) * 256 + number_at g k
 
-abbrev pub groupsWord : Groups → ℕ
-groupsWord g = fourAt g 4 * half + fourAt g 0
+abbrev pub groups_word : Groups → ℕ
+groups_word g = four_at g 4 * half + four_at g 0
 
 -- ---- what one sender's words say
 
-abbrev pub lastIn : ℕ → Last
-lastIn w = record { version = record { 0 = w / half }; number = record { 0 = w % half } }
+abbrev pub last_in : ℕ → Last
+last_in w = record { version = record { 0 = w / half }; number = record { 0 = w % half } }
 
-abbrev pub messageIn : Record → Message
-messageIn r = record {
+abbrev pub message_in : Record → Message
+message_in r = record {
   version = record { 0 = r.message / half };
   number = record { 0 = r.message % half };
   tcd = r.cut / 281474976710656;
@@ -115,29 +115,29 @@ messageIn r = record {
 abbrev pub flag : ℕ → Bool
 flag w = eqb w 1
 
-abbrev pub flagWord : Bool → ℕ
-flagWord b = cond b 1 0
+abbrev pub flag_word : Bool → ℕ
+flag_word b = cond b 1 0
 
-abbrev pub senderOf : Record → Sender
-senderOf r = record {
-  address = addressIn r.address;
-  last = lastIn r.last;
+abbrev pub sender_of : Record → Sender
+sender_of r = record {
+  address = address_in r.address;
+  last = last_in r.last;
   «open» = flag r.«open»;
-  message = messageIn r;
+  message = message_in r;
   alive = flag r.alive;
   heard = record { stamp = r.heard; timeout = r.timeout };
 }
 
-abbrev pub recordOf : Sender → Record
-recordOf s = record {
-  address = addressWord s.address;
+abbrev pub record_of : Sender → Record
+record_of s = record {
+  address = address_word s.address;
   last = pair s.last.version.0 s.last.number.0;
-  «open» = flagWord s.«open»;
+  «open» = flag_word s.«open»;
   message = pair s.message.version.0 s.message.number.0;
-  cut = cutWord s.message;
+  cut = cut_word s.message;
   map = s.message.map;
   stamp = s.message.stamp;
-  alive = flagWord s.alive;
+  alive = flag_word s.alive;
   heard = s.heard.stamp;
   timeout = s.heard.timeout;
 }
@@ -148,23 +148,23 @@ unfoldable pub fits : Record → Bool
 fits r = leb r.«open» 1 && leb r.alive 1 && (not (flag r.alive) || ltb r.timeout half)
 
 -- The words with another last version and number, and another message, open or not: what a message call changes.
-abbrev pub joinedBy : Record → Sender → Record
-joinedBy r s = record {
+abbrev pub joined_by : Record → Sender → Record
+joined_by r s = record {
   address = r.address;
-  last = (recordOf s).last;
-  «open» = (recordOf s).«open»;
-  message = (recordOf s).message;
-  cut = (recordOf s).cut;
-  map = (recordOf s).map;
-  stamp = (recordOf s).stamp;
+  last = (record_of s).last;
+  «open» = (record_of s).«open»;
+  message = (record_of s).message;
+  cut = (record_of s).cut;
+  map = (record_of s).map;
+  stamp = (record_of s).stamp;
   alive = r.alive;
   heard = r.heard;
   timeout = r.timeout;
 }
 
 -- The words of a sender heard at another time, alive or not: what an alive signal changes.
-abbrev pub heardAs : Record → Bool → Heard → Record
-heardAs r alive h = record {
+abbrev pub heard_as : Record → Bool → Heard → Record
+heard_as r alive h = record {
   address = r.address;
   last = r.last;
   «open» = r.«open»;
@@ -172,7 +172,7 @@ heardAs r alive h = record {
   cut = r.cut;
   map = r.map;
   stamp = r.stamp;
-  alive = flagWord alive;
+  alive = flag_word alive;
   heard = h.stamp;
   timeout = h.timeout;
 }
@@ -184,47 +184,47 @@ unfoldable pub listed : {A : Type 0} → (ℕ → A) → ℕ → List A
 listed f zero = []
 listed f (suc k) = listed f k ++ (f k ∷ [])
 
-abbrev pub settingsIn : List ℕ → Settings
-settingsIn l = record { test = flag (word l 0); n1 = word l 1; t = word l 2; count = word l 4; groups = groupsIn (word l 5) (word l 6) }
+abbrev pub settings_in : List ℕ → Settings
+settings_in l = record { test = flag (word l 0); n1 = word l 1; t = word l 2; count = word l 4; groups = groups_in (word l 5) (word l 6) }
 
-unfoldable pub sendersIn : List ℕ → List Sender
-sendersIn l = listed (λ i. senderOf (recordAt l i)) sendersMost
+unfoldable pub senders_in : List ℕ → List Sender
+senders_in l = listed (λ i. sender_of (record_at l i)) senders_most
 
 -- The state that words are.
-abbrev pub stateIn : List ℕ → Receiver
-stateIn l = state_of (settingsIn l) (word l 3) (sendersIn l)
+abbrev pub state_in : List ℕ → Receiver
+state_in l = state_of (settings_in l) (word l 3) (senders_in l)
 
 -- Words that are a state's: as many as it has, no more senders than there are places, and none that no field can hold.
 -- "places past the senders are … never looked at".
-unfoldable pub fitTo : List ℕ → ℕ → Bool
-fitTo l zero = true
-fitTo l (suc k) = fitTo l k && fits (recordAt l k)
+unfoldable pub fit_to : List ℕ → ℕ → Bool
+fit_to l zero = true
+fit_to l (suc k) = fit_to l k && fits (record_at l k)
 
-unfoldable pub isState : List ℕ → Bool
-isState l = eqb (length l) wordsMost && leb (word l 0) 1 && leb (word l 4) sendersMost && fitTo l (word l 4)
+unfoldable pub is_state : List ℕ → Bool
+is_state l = eqb (length l) words_most && leb (word l 0) 1 && leb (word l 4) senders_most && fit_to l (word l 4)
 
 -- ---- a state, in words
 
 -- The words of the first k senders, one behind the other.
-unfoldable pub senderWords : (ℕ → Sender) → ℕ → List ℕ
-senderWords f zero = []
-senderWords f (suc k) = senderWords f k ++ recordWords (recordOf (f k))
+unfoldable pub sender_words : (ℕ → Sender) → ℕ → List ℕ
+sender_words f zero = []
+sender_words f (suc k) = sender_words f k ++ record_words (record_of (f k))
 
-abbrev pub settingsWords : Receiver → List ℕ
-settingsWords w = flagWord w.test ∷ w.n1 ∷ w.t ∷ w.clock ∷ w.count ∷ w.groups.count ∷ groupsWord w.groups ∷ []
+abbrev pub settings_words : Receiver → List ℕ
+settings_words w = flag_word w.test ∷ w.n1 ∷ w.t ∷ w.clock ∷ w.count ∷ w.groups.count ∷ groups_word w.groups ∷ []
 
 -- The words of a state, with those of its first k senders.
 abbrev pub front : Receiver → ℕ → List ℕ
-front w k = settingsWords w ++ senderWords (senderAt w) k
+front w k = settings_words w ++ sender_words (sender_at w) k
 
 -- All words of a state: "places past the senders are written 0".
 abbrev pub words_of : Receiver → List ℕ
-words_of w = front w sendersMost
+words_of w = front w senders_most
 
 -- The words l with the state w in them. Words past the senders stay.
 unfoldable pub written : List ℕ → Receiver → List ℕ
 written l w = front w w.count ++ drop (place w.count) l
 
 -- What a call leaves, if it leaves the state w; words that are no state stay.
-unfoldable pub leftBy : List ℕ → Receiver → List ℕ
-leftBy l w = cond (isState l) (written l w) l
+unfoldable pub left_by : List ℕ → Receiver → List ℕ
+left_by l w = cond (is_state l) (written l w) l

@@ -7,9 +7,9 @@
 ghost use Rattle.std.specs.Prelude.{◌≡◌, cond, ◌%◌, ◌≤◌, ◌<◌, set as set_at};
 ghost use Rattle.groups.specs.Groups.{number_at};
 ghost use Rattle.octets.specs.Run.{laid};
-ghost use Rattle.state.specs.State.{noMessage};
-ghost use Rattle.words.specs.Words.{place, word, half, groupsIn, fourAt, groupsWord, messageIn, flag, recordAt, recordWords, recordOf, joinedBy, heardAs, pair as pair_of, cutWord};
-ghost use Rattle.words.specs.Shown.{heardShown, shown};
+ghost use Rattle.state.specs.State.{no_message};
+ghost use Rattle.words.specs.Words.{place, word, half, groups_in, four_at, groups_word, message_in, flag, record_at, record_words, record_of, joined_by, heard_as, pair as pair_of, cut_word};
+ghost use Rattle.words.specs.Shown.{heard_shown, shown};
 
 use groups::{Group, Groups};
 use header::codes::{DataField, Node};
@@ -45,7 +45,7 @@ pub fn set(words: &mut [u64], k: usize, x: u64)
 
 // The groups, with a count that an octet holds.
 pub fn groups(words: &[u64]) -> Groups
-    ensures { result ≡ groupsIn (word words.now 5 % 256) (word words.now 6) }
+    ensures { result ≡ groups_in (word words.now 5 % 256) (word words.now 6) }
 {
     let count = (at(words, places::GROUP_COUNT) % 256) as u8;
     let w = at(words, places::GROUPS);
@@ -66,7 +66,7 @@ pub fn groups(words: &[u64]) -> Groups
 
 // The word of the groups.
 pub fn groups_word(groups: Groups) -> u64
-    ensures { result ≡ groupsWord groups }
+    ensures { result ≡ groups_word groups }
 {
     four(groups, 4) * HALF + four(groups, 0)
 }
@@ -74,7 +74,7 @@ pub fn groups_word(groups: Groups) -> u64
 // Four of them from a place on.
 fn four(groups: Groups, k: u8) -> u64
     requires { k ≤ 4 }
-    ensures { (result ≡ fourAt groups k) × (result < half) }
+    ensures { (result ≡ four_at groups k) × (result < half) }
 {
     octet(groups, k + 3) * 16_777_216
         + octet(groups, k + 2) * QUARTER
@@ -121,7 +121,7 @@ pub fn first_of(i: u8) -> usize
 
 // The words of the sender at a place.
 pub fn load(words: &[u64], i: u8) -> Record
-    ensures { result ≡ recordAt words.now i }
+    ensures { result ≡ record_at words.now i }
 {
     let at = first_of(i);
     if words.len() < at + places::EACH {
@@ -143,7 +143,7 @@ pub fn load(words: &[u64], i: u8) -> Record
 
 // Puts the words of the sender at a place down.
 pub fn put(words: &mut [u64], i: u8, r: Record)
-    ensures { words.new ≡ laid words.old (place i) (recordWords r) }
+    ensures { words.new ≡ laid words.old (place i) (record_words r) }
 {
     let at = first_of(i);
     if at + places::EACH <= words.len() {
@@ -176,7 +176,7 @@ impl Record {
 
     // The open message.
     fn message_of(self) -> Message
-        ensures { result ≡ messageIn self }
+        ensures { result ≡ message_in self }
     {
         let version = Version((self.message / HALF) as u32);
         let number = Number((self.message % HALF) as u32);
@@ -194,7 +194,7 @@ impl Record {
     }
 
     fn open_message(self) -> Message
-        ensures { result ≡ cond (flag self.«open») (messageIn self) noMessage }
+        ensures { result ≡ cond (flag self.«open») (message_in self) no_message }
     {
         if self.open == 1 {
             return self.message_of();
@@ -203,7 +203,7 @@ impl Record {
     }
 
     fn alive_heard(self) -> Heard
-        ensures { result ≡ heardShown self }
+        ensures { result ≡ heard_shown self }
     {
         if self.alive == 1 {
             return Heard {
@@ -240,7 +240,7 @@ impl Record {
 
     // The words with what a message call changes of the sender.
     pub fn joined(mut self, s: Sender) -> Record
-        ensures { result ≡ joinedBy self s }
+        ensures { result ≡ joined_by self s }
     {
         let last = s.last;
         let m = s.message;
@@ -255,7 +255,7 @@ impl Record {
 
     // The words with what an alive signal changes of the sender.
     pub fn with_heard(mut self, alive: bool, h: Heard) -> Record
-        ensures { result ≡ heardAs self alive h }
+        ensures { result ≡ heard_as self alive h }
     {
         self.alive = alive as u64;
         self.heard = h.stamp;
@@ -265,7 +265,7 @@ impl Record {
 
     // The words of a sender.
     pub fn of(s: Sender) -> Record
-        ensures { result ≡ recordOf s }
+        ensures { result ≡ record_of s }
     {
         let mut r = Record::NONE.joined(s);
         let address = s.address;
@@ -282,7 +282,7 @@ fn pair(version: Version, number: Number) -> u64
 }
 
 fn cut_of(m: Message) -> u64
-    ensures { result ≡ cutWord m }
+    ensures { result ≡ cut_word m }
 {
     m.tcd as u64 * (HALF * QUARTER)
         + m.n as u64 * HALF

@@ -7,57 +7,57 @@ use Rattle.std.proofs.Common.{ap, add-one}
 use Rattle.std.proofs.Math.Logic.{⊎_elim}
 use native.Mathlib.Omega.{arith}
 use borrow.Author.Tests.{lt-ltb, le-ltb}
-use Rattle.octets.specs.Split.{lt-or-le, true-or-false, not-both, and_left, and_right}
+use Rattle.octets.specs.Split.{lt_or_le, true_or_false, not_both, and_left, and_right}
 use Rattle.state.specs.declared.Address.{Address}
 use Rattle.state.specs.declared.Look.{Look}
-use Rattle.state.specs.Limits.{sameAddress, valid}
-use Rattle.state.specs.State.{sendersMost, firstWhere}
-use Rattle.state.specs.Table.{find, lookAt}
-use Rattle.state.specs.TableLaws.{look-outside}
-use Rattle.words.specs.Words.{place, wordsMost, word, addressIn, sendersIn, stateIn, isState}
-use Rattle.words.specs.StateLaws.{state-facts}
-use Rattle.words_look.specs.Look.{is_held, outside, lookIn, place_in}
-use Rattle.words_look.specs.AddressLaws.{address-in}
+use Rattle.state.specs.Limits.{same_address, valid}
+use Rattle.state.specs.State.{senders_most, first_where}
+use Rattle.state.specs.Table.{find, look_at}
+use Rattle.state.specs.TableLaws.{look_outside}
+use Rattle.words.specs.Words.{place, words_most, word, address_in, senders_in, state_in, is_state}
+use Rattle.words.specs.StateLaws.{state_facts}
+use Rattle.words_look.specs.Look.{is_held, outside, look_in, place_in}
+use Rattle.words_look.specs.AddressLaws.{address_in_lem}
 
 -- ---- number 9
 
 -- A state within its limits, in words that are a state.
 pub record Held (l : List ℕ) : Type 0 where
-  pub is_state : isState l ≡ true
-  pub is-valid : valid (stateIn l) ≡ true
+  pub means_state : is_state l ≡ true
+  pub is_valid : valid (state_in l) ≡ true
 
 -- The look tells whether the words are a state within its limits.
-pub look-tells : (l : List ℕ) (a : Address) → (lookIn l a).valid ≡ is_held l
-unfolding lookIn lookAt is_held
-look-tells l a = by (isState l)
+pub look_tells : (l : List ℕ) (a : Address) → (look_in l a).valid ≡ is_held l
+unfolding look_in look_at is_held
+look_tells l a = by (is_state l)
   where
-    by : (b : Bool) → (cond b (lookAt (stateIn l) a) outside).valid ≡ b && valid (stateIn l)
+    by : (b : Bool) → (cond b (look_at (state_in l) a) outside).valid ≡ b && valid (state_in l)
     by true = refl
     by false = refl
 
 module _ (l : List ℕ) where
   pub held_by : is_held l ≡ true → Held l
   unfolding is_held
-  held_by e = record { is_state = and_left (isState l) (valid (stateIn l)) e; is-valid = and_right (isState l) (valid (stateIn l)) e }
+  held_by e = record { means_state = and_left (is_state l) (valid (state_in l)) e; is_valid = and_right (is_state l) (valid (state_in l)) e }
 
-  pub nine-unless : (Held l → ⊥) → false ≡ is_held l
+  pub nine_unless : (Held l → ⊥) → false ≡ is_held l
   unfolding is_held
-  nine-unless never = sym (not-both (isState l) (valid (stateIn l)) (λ is ok. never (record { is_state = is; is-valid = ok })))
+  nine_unless never = sym (not_both (is_state l) (valid (state_in l)) (λ is ok. never (record { means_state = is; is_valid = ok })))
 
   -- Where it is told, the words are no state, or the state that they are is outside its limits.
-  pub nine-by : (P : Type 0) → is_held l ≡ false → (isState l ≡ false → P) → (isState l ≡ true → valid (stateIn l) ≡ false → P) → P
+  pub nine_by : (P : Type 0) → is_held l ≡ false → (is_state l ≡ false → P) → (is_state l ≡ true → valid (state_in l) ≡ false → P) → P
   unfolding is_held
-  nine-by P e none outside-limits = ⊎_elim (λ (is : isState l ≡ true). outside-limits is (rw is at e)) none (true-or-false (isState l))
+  nine_by P e none outside-limits = ⊎_elim (λ (is : is_state l ≡ true). outside-limits is (rw is at e)) none (true_or_false (is_state l))
 
-  pub outside-nine : (a : Address) → is_held l ≡ false → outside ≡ lookIn l a
-  unfolding lookIn
-  outside-nine a e = nine-by (outside ≡ lookIn l a) e (λ no. rw no) (λ is no. rw is (look-outside (stateIn l) a no))
+  pub outside_nine : (a : Address) → is_held l ≡ false → outside ≡ look_in l a
+  unfolding look_in
+  outside_nine a e = nine_by (outside ≡ look_in l a) e (λ no. rw no) (λ is no. rw is (look_outside (state_in l) a no))
 
 -- ---- the sender's place
 
 module _ (l : List ℕ) (a : Address) where
   -- Where no place before has it, it is found here,
-  pub place_here : (i : ℕ) → place_in l a i ≡ i → sameAddress (addressIn (word l (place i))) a ≡ true → (k : ℕ) → i < k → place_in l a k ≡ i
+  pub place_here : (i : ℕ) → place_in l a i ≡ i → same_address (address_in (word l (place i))) a ≡ true → (k : ℕ) → i < k → place_in l a k ≡ i
   unfolding place_in
   place_here i none here zero less = absurd (omega arith)
   place_here i none here (suc k) less = ⊎_elim
@@ -65,24 +65,24 @@ module _ (l : List ℕ) (a : Address) where
       (λ (q : k ≤ i).
       let z : k ≡ i = omega arith in
       rw (z, none, here, le-ltb i i (omega arith)))
-      (lt-or-le i k)
+      (lt_or_le i k)
 
   -- or not.
-  pub place_none : (i : ℕ) → place_in l a i ≡ i → sameAddress (addressIn (word l (place i))) a ≡ false → place_in l a (i + 1) ≡ i + 1
+  pub place_none : (i : ℕ) → place_in l a i ≡ i → same_address (address_in (word l (place i))) a ≡ false → place_in l a (i + 1) ≡ i + 1
   unfolding place_in
-  place_none i none not-here = rw (add-one i, none, not-here, le-ltb i i (omega arith))
+  place_none i none not_here = rw (add-one i, none, not_here, le-ltb i i (omega arith))
 
   -- That place is where the state's table has the sender.
-  pub place-find : (k : ℕ) → k ≤ sendersMost → length l ≡ wordsMost → place_in l a k ≡ find (sendersIn l) a k
-  unfolding place_in firstWhere
-  place-find zero few many = refl
-  place-find (suc k) few many = rw (place-find k (omega arith) many, address-in l many k (omega arith))
+  pub place_find : (k : ℕ) → k ≤ senders_most → length l ≡ words_most → place_in l a k ≡ find (senders_in l) a k
+  unfolding place_in first_where
+  place_find zero few many = refl
+  place_find (suc k) few many = rw (place_find k (omega arith) many, address_in_lem l many k (omega arith))
 
-  pub look-held : Held l → record { valid = true; at = place_in l a (word l 4) } ≡ lookIn l a
-  unfolding lookIn lookAt
-  look-held h =
-      let f = state-facts l h.is_state in
-      rw (h.is_state, h.is-valid, place-find (word l 4) f.few f.many)
+  pub look_held : Held l → record { valid = true; at = place_in l a (word l 4) } ≡ look_in l a
+  unfolding look_in look_at
+  look_held h =
+      let f = state_facts l h.means_state in
+      rw (h.means_state, h.is_valid, place_find (word l 4) f.few f.many)
 
-  pub place-held : Held l → place_in l a (word l 4) ≡ (lookIn l a).at
-  place-held h = ap (λ (k : Look). k.at) (look-held h)
+  pub place_held : Held l → place_in l a (word l 4) ≡ (look_in l a).at
+  place_held h = ap (λ (k : Look). k.at) (look_held h)

@@ -4,11 +4,11 @@
 // are, is said by crate `words`; the limits are the state's own. 9 is judged for every packet, so the words are looked at
 // where they stand, and no further than to the first that is outside its limits.
 ghost use Rattle.std.specs.Prelude.{◌≡◌, true, ◌&&◌};
-ghost use Rattle.groups.specs.Groups.{groupsWithin};
-ghost use Rattle.state.specs.Limits.{isAddress, lastWithin, messageWithin};
-ghost use Rattle.words.specs.Words.{word, groupsIn, recordIn, addressIn, lastIn, messageIn};
-ghost use Rattle.words_look.specs.Look.{is_held, place_in, lookIn};
-ghost use Rattle.words_look.specs.private.Tests.{eachSetting, settingsFit, recordWithin, Sized, recordsWithin, noneTwice, aliveWithin, openWithin, cutWithin};
+ghost use Rattle.groups.specs.Groups.{groups_within};
+ghost use Rattle.state.specs.Limits.{is_address, last_within, message_within};
+ghost use Rattle.words.specs.Words.{word, groups_in, record_in, address_in, last_in, message_in};
+ghost use Rattle.words_look.specs.Look.{is_held, place_in, look_in};
+ghost use Rattle.words_look.specs.private.Tests.{each_setting, settings_fit, record_within, Sized, records_within, none_twice, alive_within, open_within, cut_within};
 
 use cut::possible::several;
 use header::codes::code_of;
@@ -50,7 +50,7 @@ pub fn place_of(words: &[u64], count: u8, a: Address) -> u8
 
 // Number 9, and where it does not apply the place of the sender with this address.
 pub fn look(words: &[u64], a: Address) -> Look
-    ensures { result ≡ lookIn words.now a }
+    ensures { result ≡ look_in words.now a }
 {
     if !within(words) {
         return Look::OUTSIDE;
@@ -64,7 +64,7 @@ pub fn look(words: &[u64], a: Address) -> Look
 
 // Of the states without senders only the empty one passes.
 fn settings_within(words: &[u64]) -> bool
-    ensures { result ≡ settingsFit words.now }
+    ensures { result ≡ settings_fit words.now }
 {
     if !each_setting(words) {
         return false;
@@ -80,7 +80,7 @@ fn settings_within(words: &[u64]) -> bool
 
 // Each setting by itself.
 fn each_setting(words: &[u64]) -> bool
-    ensures { result ≡ eachSetting words.now }
+    ensures { result ≡ each_setting words.now }
 {
     let n1 = at(words, places::N1);
     let t = at(words, places::T);
@@ -93,7 +93,7 @@ fn each_setting(words: &[u64]) -> bool
 }
 
 fn groups_within(words: &[u64]) -> bool
-    ensures { result ≡ groupsWithin (groupsIn (word words.now 5) (word words.now 6)) }
+    ensures { result ≡ groups_within (groups_in (word words.now 5) (word words.now 6)) }
 {
     if 8 < at(words, places::GROUP_COUNT) {
         return false;
@@ -106,7 +106,7 @@ fn groups_within(words: &[u64]) -> bool
 
 fn senders_within(words: &[u64], count: u8) -> bool
     requires { Sized words.now count }
-    ensures { result ≡ (recordsWithin words.now count && noneTwice words.now count) }
+    ensures { result ≡ (records_within words.now count && none_twice words.now count) }
 {
     if !each_sender(words, count) {
         return false;
@@ -120,7 +120,7 @@ fn senders_within(words: &[u64], count: u8) -> bool
 
 fn each_sender(words: &[u64], count: u8) -> bool
     requires { Sized words.now count }
-    ensures { result ≡ recordsWithin words.now count }
+    ensures { result ≡ records_within words.now count }
 {
     let clock = at(words, places::CLOCK);
     let mut i: u8 = 0;
@@ -138,8 +138,8 @@ fn each_sender(words: &[u64], count: u8) -> bool
 // Whether no address stands twice. Each is within its limits, so it has a key that no place without one has.
 fn none_twice(words: &[u64], count: u8) -> bool
     requires sized { Sized words.now count }
-    requires count_value { recordsWithin words.now count ≡ true }
-    ensures { result ≡ noneTwice words.now count }
+    requires count_value { records_within words.now count ≡ true }
+    ensures { result ≡ none_twice words.now count }
 {
     let mut seen = [0u32; Receiver::PLACES];
     let mut i: u8 = 0;
@@ -158,7 +158,7 @@ fn none_twice(words: &[u64], count: u8) -> bool
 
 // Whether no word holds what its field can't, and the sender is within its limits.
 fn sender_within(s: &[u64], clock: u64) -> bool
-    ensures { result ≡ recordWithin clock (recordIn s.now) }
+    ensures { result ≡ record_within clock (record_in s.now) }
 {
     if !alive_within(s, clock) {
         return false;
@@ -174,7 +174,7 @@ fn sender_within(s: &[u64], clock: u64) -> bool
 
 // Only of an alive sender it is looked at when it was heard.
 fn alive_within(s: &[u64], clock: u64) -> bool
-    ensures { result ≡ aliveWithin clock (recordIn s.now) }
+    ensures { result ≡ alive_within clock (record_in s.now) }
 {
     let alive = at(s, places::ALIVE);
     if alive == 1 {
@@ -184,7 +184,7 @@ fn alive_within(s: &[u64], clock: u64) -> bool
 }
 
 fn address_within(w: u64) -> bool
-    ensures { result ≡ isAddress (addressIn w) }
+    ensures { result ≡ is_address (address_in w) }
 {
     let field = w / QUARTER;
     let node = w % QUARTER;
@@ -193,7 +193,7 @@ fn address_within(w: u64) -> bool
 
 // Number 0 is the last where nothing was delivered yet, under version 0.
 fn last_within(w: u64) -> bool
-    ensures { result ≡ lastWithin (lastIn w) }
+    ensures { result ≡ last_within (last_in w) }
 {
     let number = w % HALF;
     ((1 <= number) & (number <= (M as u64))) | (w == 0)
@@ -201,7 +201,7 @@ fn last_within(w: u64) -> bool
 
 // Only an open message is looked at.
 fn open_within(s: &[u64], clock: u64) -> bool
-    ensures { result ≡ openWithin clock (recordIn s.now) }
+    ensures { result ≡ open_within clock (record_in s.now) }
 {
     let open = at(s, places::OPEN);
     if open == 1 {
@@ -211,7 +211,7 @@ fn open_within(s: &[u64], clock: u64) -> bool
 }
 
 fn message_within(s: &[u64], clock: u64) -> bool
-    ensures { result ≡ messageWithin clock (messageIn (recordIn s.now)) }
+    ensures { result ≡ message_within clock (message_in (record_in s.now)) }
 {
     if clock < at(s, places::STAMP) {
         return false;
@@ -225,7 +225,7 @@ fn message_within(s: &[u64], clock: u64) -> bool
 
 // The open message's code, its cut and its map, and how many pieces are held.
 fn cut_within(cut: u64, map: u64) -> bool
-    ensures { result ≡ cutWithin cut map }
+    ensures { result ≡ cut_within cut map }
 {
     let code = code_of((cut / (HALF * QUARTER)) as u16);
     if !code.is_user() {

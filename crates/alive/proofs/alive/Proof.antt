@@ -1,6 +1,6 @@
 -- One pass over the table, the judge, and what an alive signal does. Assumes nothing.
-use Rattle.rules.specs.calls.AliveLaws.{signal-refused, signal-place, signal-noted}
-use Rattle.rules.specs.calls.Message.{withSender}
+use Rattle.rules.specs.calls.AliveLaws.{signal_refused, signal_place, signal_noted}
+use Rattle.rules.specs.calls.Message.{with_sender}
 use borrow.Author.Rules.{rules}
 use Rattle.alive.proofs.alive.Statement.{statement}
 use Rattle.alive.proofs.alive.Tie as tie
@@ -26,7 +26,7 @@ returns c =
     let l = k.before in
     let head = l.before.before in
     let a = head.before.before.before.args in
-    signal-refused a.t1 a.packet.now _ _ _ _ head.before.read_head.ensures head.read-body.ensures l.before.of.ensures l.look.ensures _ k.signal-number.ensures c.if1.true
+    signal_refused a.t1 a.packet.now _ _ _ _ head.before.read_head.ensures head.read-body.ensures l.before.of.ensures l.look.ensures _ k.signal-number.ensures c.if1.true
 
 cast-s : tie.Need-overflow-cast-s
 cast-s c = search rules
@@ -40,7 +40,7 @@ element-copy-out-s c =
     let l = k.before in
     let head = l.before.before in
     let a = head.before.before.before.args in
-    signal-place a.t1 a.packet.now _ _ _ _ head.before.read_head.ensures head.read-body.ensures l.before.of.ensures l.look.ensures _ k.signal-number.ensures c.if1.false
+    signal_place a.t1 a.packet.now _ _ _ _ head.before.read_head.ensures head.read-body.ensures l.before.of.ensures l.look.ensures _ k.signal-number.ensures c.if1.false
 
 heard-by-requires : tie.Need-heard-by-requires
 heard-by-requires c κs = search rules
@@ -57,16 +57,16 @@ element-set-from-next c =
     let l = k.before in
     let head = l.before.before in
     let a = head.before.before.before.args in
-    signal-place a.t1 a.packet.now _ _ _ _ head.before.read_head.ensures head.read-body.ensures l.before.of.ensures l.look.ensures _ k.signal-number.ensures c.before.before.if1.false
+    signal_place a.t1 a.packet.now _ _ _ _ head.before.read_head.ensures head.read-body.ensures l.before.of.ensures l.look.ensures _ k.signal-number.ensures c.before.before.if1.false
 
 returns-2 : tie.Need-returns-2
-unfolding withSender
+unfolding with_sender
 returns-2 c =
     let k = c.before.before.before in
     let l = k.before in
     let head = l.before.before in
     let a = head.before.before.before.args in
-    rw c.heard-by.ensures (signal-noted a.t1 a.packet.now _ _ _ _ head.before.read_head.ensures head.read-body.ensures l.before.of.ensures l.look.ensures _ k.signal-number.ensures c.before.before.if1.false)
+    rw c.heard-by.ensures (signal_noted a.t1 a.packet.now _ _ _ _ head.before.read_head.ensures head.read-body.ensures l.before.of.ensures l.look.ensures _ k.signal-number.ensures c.before.before.if1.false)
 
 pub alive-spec : {M : Type 1} → statement M
 alive-spec =

@@ -9,11 +9,11 @@ fault-within-requires c κs = search rules
 
 returns : tie.Need-returns
 unfolding first
-returns c = rw (← c.before.fault-within.ensures, c.if1.true)
+returns c = rw (← c.before.fault_within.ensures, c.if1.true)
 
 returns-2 : tie.Need-returns-2
 unfolding first
-returns-2 c = rw (← c.before.fault-within.ensures, c.if1.false)
+returns-2 c = rw (← c.before.fault_within.ensures, c.if1.false)
 
 pub fault-number-spec : {M : Type 1} → statement M
 fault-number-spec = tie.close (tie.spec fault-within-requires returns returns-2)

@@ -2,7 +2,7 @@
 use borrow.Author.Rules.{rules}
 use mathlib.Core.Path.{◌∙◌}
 use borrow.Author.Tests.{eq-eqb, ne_eqb}
-use Rattle.rules.specs.calls.Alive.{heardBy}
+use Rattle.rules.specs.calls.Alive.{heard_by}
 use Rattle.alive.proofs.heard_by.Statement.{statement}
 use Rattle.alive.proofs.heard_by.Tie as tie
 
@@ -10,14 +10,14 @@ with-heard-requires : tie.Need-with-heard-requires
 with-heard-requires c κs = search rules
 
 returns : tie.Need-returns
-unfolding heardBy
+unfolding heard_by
 returns c = c.with-heard.ensures ∙ rw (eq-eqb _ _ c.before.if1.true)
 
 with-heard-requires-2 : tie.Need-with-heard-requires-2
 with-heard-requires-2 c κs = search rules
 
 returns-2 : tie.Need-returns-2
-unfolding heardBy
+unfolding heard_by
 returns-2 c = c.with-heard2.ensures ∙ rw (ne_eqb _ _ c.before.if1.false)
 
 pub heard-by-spec : {M : Type 1} → statement M

@@ -28,7 +28,7 @@ returns-3 c =
     simp (
       long.before.before.if1.false,
       sym long.before.length-outside.ensures ∙ long.if2.false,
-      ap not (sym c.before.head-within.ensures) ∙ c.if3.true,
+      ap not (sym c.before.head_within.ensures) ∙ c.if3.true,
     )
 
 returns-4 : tie.Need-returns-4
@@ -39,7 +39,7 @@ returns-4 c =
     simp (
       long.before.before.if1.false,
       sym long.before.length-outside.ensures ∙ long.if2.false,
-      ap not (sym head.before.head-within.ensures) ∙ head.if3.false,
+      ap not (sym head.before.head_within_lem.ensures) ∙ head.if3.false,
       le-leb _ _ c.if4.true,
     )
 
@@ -55,7 +55,7 @@ returns-5 c =
     simp (
       long.before.before.if1.false,
       sym long.before.length-outside.ensures ∙ long.if2.false,
-      ap not (sym head.before.head-within.ensures) ∙ head.if3.false,
+      ap not (sym head.before.head_within_lem.ensures) ∙ head.if3.false,
       lt-leb _ _ registered.if4.false,
       ap not (sym c.before.signal-within.ensures) ∙ c.if5.true,
     )
@@ -73,7 +73,7 @@ returns-6 c =
     simp (
       long.before.before.if1.false,
       sym long.before.length-outside.ensures ∙ long.if2.false,
-      ap not (sym head.before.head-within.ensures) ∙ head.if3.false,
+      ap not (sym head.before.head_within_lem.ensures) ∙ head.if3.false,
       lt-leb _ _ registered.if4.false,
       ap not (sym signal.before.signal-within.ensures) ∙ signal.if5.false,
       c.fault-number.ensures,

@@ -1,5 +1,5 @@
 -- Each test is that of the definition. Assumes nothing.
-use Rattle.rules.specs.calls.Alive.{aliveWithin}
+use Rattle.rules.specs.calls.Alive.{alive_within}
 use borrow.Author.Rules.{rules}
 use Rattle.alive.proofs.signal_within.Statement.{statement}
 use Rattle.alive.proofs.signal_within.Tie as tie
@@ -14,7 +14,7 @@ within-requires : tie.Need-within-requires
 within-requires c κs = search rules
 
 returns : tie.Need-returns
-unfolding aliveWithin
+unfolding alive_within
 returns c = simp (c.before.group.ensures, c.within.ensures)
 
 pub signal-within-spec : {M : Type 1} → statement M

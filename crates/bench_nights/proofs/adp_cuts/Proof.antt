@@ -1,12 +1,12 @@
 -- After c turns the pieces 1 to c are cut. Assumes nothing.
 use Rattle.std.proofs.Common.{◌≡◌, ◌-◌, ◌≤◌, length, refl, add-one, arith, rules}
-use Rattle.bench_nights.specs.Cuts.{cutsSum, cutsBuffer}
+use Rattle.bench_nights.specs.Cuts.{cuts_sum, cuts_buffer}
 use Rattle.bench_nights.proofs.adp_cuts.Statement.{statement}
 use Rattle.bench_nights.proofs.adp_cuts.Tie as tie
 
 abbrev invariant-loop : tie.invariant-loop
 invariant-loop number message u last buffer₀ given sum₀ c₀ buffer sum c =
-    (c ≤ last) × (length buffer ≡ length buffer₀) × (buffer ≡ cutsBuffer given message u buffer₀ c) × (sum ≡ cutsSum given message u buffer₀ c)
+    (c ≤ last) × (length buffer ≡ length buffer₀) × (buffer ≡ cuts_buffer given message u buffer₀ c) × (sum ≡ cuts_sum given message u buffer₀ c)
 
 abbrev decreases-loop : tie.decreases-loop
 decreases-loop number message u last buffer₀ given sum₀ c₀ buffer sum c = last - c
@@ -15,7 +15,7 @@ given-of-requires : tie.Need-given-of-requires invariant-loop decreases-loop
 given-of-requires c κs = search rules
 
 loop-holds : tie.Need-loop-init invariant-loop decreases-loop
-unfolding cutsSum cutsBuffer
+unfolding cuts_sum cuts_buffer
 loop-holds c = (search rules, refl, refl, refl)
 
 add-c : tie.Need-overflow-add-c invariant-loop decreases-loop
@@ -31,7 +31,7 @@ loop-less : tie.Need-loop-smaller invariant-loop decreases-loop
 loop-less c = omega arith
 
 loop-again : tie.Need-loop-preserved invariant-loop decreases-loop
-unfolding cutsSum cutsBuffer
+unfolding cuts_sum cuts_buffer
 loop-again c =
     let l = c.before.before.before.before.before.before.loop in
     let k = c.before.before.before.cutter in

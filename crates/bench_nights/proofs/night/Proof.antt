@@ -1,9 +1,9 @@
 -- After i packets the rest leads to the night's end. Assumes nothing.
 use Rattle.std.proofs.Common.{◌≡◌, ◌-◌, ◌≤◌, length, refl, ap, ◌∙◌, arith, rules}
 use Rattle.rules.specs.pasts.Past.{World, step}
-use Rattle.rules.specs.pasts.PastLaws.{same-room}
-use Rattle.bench_nights.specs.Night.{boardOf, begun, sumBy}
-use Rattle.bench_nights.specs.NightLaws.{Towards, ends-within, begins, turn, counted, reached}
+use Rattle.rules.specs.pasts.PastLaws.{same_room}
+use Rattle.bench_nights.specs.Night.{board_of, begun, sum_by}
+use Rattle.bench_nights.specs.NightLaws.{Towards, ends_within, begins, turn, counted, reached}
 use Rattle.bench_nights.proofs.night.Statement.{statement}
 use Rattle.bench_nights.proofs.night.Tie as tie
 
@@ -12,7 +12,7 @@ invariant-loop mode n1 t senders packets sizes storage₀ a₀ sum₀ at₀ i₀
     (i ≤ length sizes)
     × (at ≤ length packets)
     × (length storage ≡ length storage₀)
-    × Towards sizes packets (begun (boardOf mode n1 t senders) storage₀) sum (record { state = a.state; storage = storage }) at i
+    × Towards sizes packets (begun (board_of mode n1 t senders) storage₀) sum (record { state = a.state; storage = storage }) at i
 
 abbrev decreases-loop : tie.decreases-loop
 decreases-loop mode n1 t senders packets sizes storage₀ a₀ sum₀ at₀ i₀ storage a sum at i = length sizes - i
@@ -59,7 +59,7 @@ add_at c =
     let test = c.before.before.before.before.before.before.before.before.before.before in
     let l = test.before.loop in
     let start = test.before.before.before.before.before.before.before.before.before in
-    let within = ends-within _ _ l.at _ l.invariant.1 c.before.before.before.before.before.before.before.before.run.ensures in
+    let within = ends_within _ _ l.at _ l.invariant.1 c.before.before.before.before.before.before.before.before.run.ensures in
     omega (arith, within, start.well-formed.1.1.1.1.0.0)
 
 add-i : tie.Need-overflow-add-i invariant-loop decreases-loop
@@ -72,7 +72,7 @@ loop-less : tie.Need-loop-smaller invariant-loop decreases-loop
 loop-less c = omega arith
 
 loop-again : tie.Need-loop-preserved invariant-loop decreases-loop
-unfolding step sumBy
+unfolding step sum_by
 loop-again c =
     let test = c.before.before.before.before.before.before.before.before.before.before in
     let l = test.before.loop in
@@ -80,8 +80,8 @@ loop-again c =
     let m = c.before.before.before.before.before.message in
     let more = test.loop-test.true in (
       omega (arith, more),
-      ends-within _ _ l.at _ l.invariant.1 p.ensures,
-      ap length m.ensures.1 ∙ same-room _ _ _ ∙ l.invariant.2,
+      ends_within _ _ l.at _ l.invariant.1 p.ensures,
+      ap length m.ensures.1 ∙ same_room _ _ _ ∙ l.invariant.2,
       turn _ _ _ l.invariant.3 (omega (arith, more)) p.ensures
           (simp (c.with-answer.ensures, c.before.part.ensures, m.ensures.0, m.ensures.1))
           (simp (m.ensures.0, m.ensures.1)),

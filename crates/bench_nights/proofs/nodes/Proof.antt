@@ -1,18 +1,18 @@
 -- After i turns the first i places are written. Assumes nothing.
 use Rattle.std.proofs.Common.{◌≡◌, ◌-◌, ◌≤◌, length, refl, add-one, arith, length-set, rules}
-use Rattle.state.specs.State.{sendersMost}
-use Rattle.bench_nights.specs.Night.{nodesTo}
+use Rattle.state.specs.State.{senders_most}
+use Rattle.bench_nights.specs.Night.{nodes_to}
 use Rattle.bench_nights.proofs.nodes.Statement.{statement}
 use Rattle.bench_nights.proofs.nodes.Tie as tie
 
 abbrev invariant-loop : tie.invariant-loop
-invariant-loop nodes₀ i₀ nodes i = (i ≤ sendersMost) × (length nodes ≡ sendersMost) × (nodes ≡ nodesTo i)
+invariant-loop nodes₀ i₀ nodes i = (i ≤ senders_most) × (length nodes ≡ senders_most) × (nodes ≡ nodes_to i)
 
 abbrev decreases-loop : tie.decreases-loop
-decreases-loop nodes₀ i₀ nodes i = sendersMost - i
+decreases-loop nodes₀ i₀ nodes i = senders_most - i
 
 loop-holds : tie.Need-loop-init invariant-loop decreases-loop
-unfolding nodesTo
+unfolding nodes_to
 loop-holds c = (search rules, search rules, refl)
 
 cast-loop : tie.Need-overflow-cast-loop invariant-loop decreases-loop
@@ -37,7 +37,7 @@ loop-less : tie.Need-loop-smaller invariant-loop decreases-loop
 loop-less c = omega arith
 
 loop-again : tie.Need-loop-preserved invariant-loop decreases-loop
-unfolding nodesTo
+unfolding nodes_to
 loop-again c =
     let l = c.before.loop in
     (omega arith, simp length-set l.invariant.1, rw (add-one l.i, l.invariant.2))
@@ -45,7 +45,7 @@ loop-again c =
 returns : tie.Need-returns invariant-loop decreases-loop
 returns c =
     let l = c.before.loop in
-    let e : l.i ≡ sendersMost = omega arith in
+    let e : l.i ≡ senders_most = omega arith in
     rw e at l.invariant.2
 
 pub nodes-spec : {M : Type 1} → statement M

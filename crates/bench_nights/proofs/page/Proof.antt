@@ -1,11 +1,11 @@
 -- After i places the rest leads to the page's sum. Assumes nothing.
 use Rattle.std.proofs.Common.{◌≡◌, ◌-◌, ◌≤◌, length, drop, refl, add-one, arith, drop_of_length-le, drop-cons, rules}
-use Rattle.bench_nights.specs.Pages.{heldSum}
+use Rattle.bench_nights.specs.Pages.{held_sum}
 use Rattle.bench_nights.proofs.page.Statement.{statement}
 use Rattle.bench_nights.proofs.page.Tie as tie
 
 abbrev invariant-loop : tie.invariant-loop
-invariant-loop state places sum₀ i₀ sum i = (i ≤ length places) × (heldSum sum state (drop i places) ≡ heldSum 0 state places)
+invariant-loop state places sum₀ i₀ sum i = (i ≤ length places) × (held_sum sum state (drop i places) ≡ held_sum 0 state places)
 
 abbrev decreases-loop : tie.decreases-loop
 decreases-loop state places sum₀ i₀ sum i = length places - i
@@ -32,7 +32,7 @@ loop-less : tie.Need-loop-smaller invariant-loop decreases-loop
 loop-less c = omega arith
 
 loop-again : tie.Need-loop-preserved invariant-loop decreases-loop
-unfolding heldSum
+unfolding held_sum
 loop-again c =
     let test = c.before.before.before in
     let l = test.before.loop in
@@ -41,7 +41,7 @@ loop-again c =
     (omega arith, rw (c.wrapping-add-u64.ensures, c.before.held.ensures, add-one l.i) next)
 
 returns : tie.Need-returns invariant-loop decreases-loop
-unfolding heldSum
+unfolding held_sum
 returns c =
     let places = c.before.before.before.args.places.now in
     rw (drop_of_length-le places c.loop-test.false) at c.before.loop.invariant.1

@@ -2,7 +2,7 @@
 use Prim.Native.Nat.{ℕ, ◌%◌}
 use mathlib.Core.Path.{ap}
 use native.Mathlib.Omega.{arith}
-use Rattle.board_alive.specs.HeardLaws.{met-refused, met-noted}
+use Rattle.board_alive.specs.HeardLaws.{met_refused, met_noted}
 use borrow.Author.Rules.{rules}
 use Rattle.board_alive.proofs.adp_alive.Statement.{statement}
 use Rattle.board_alive.proofs.adp_alive.Tie as tie
@@ -37,7 +37,7 @@ returns c =
     let look = n.before.before.before in
     let body = look.before.before.before in
     let a = body.before.before.before.before.args in
-    met-refused a.state.now a.packet.now _ _ _ _ _ body.before.read_head.ensures body.read-body.ensures look.before.of.ensures look.look.ensures (ap (λ (x : ℕ). x % 256) n.before.at.ensures) _ n.signal-number.ensures c.if1.true
+    met_refused a.state.now a.packet.now _ _ _ _ _ body.before.read_head.ensures body.read-body.ensures look.before.of.ensures look.look.ensures (ap (λ (x : ℕ). x % 256) n.before.at.ensures) _ n.signal-number.ensures c.if1.true
 
 load-requires : tie.Need-load-requires
 load-requires c κs = search rules
@@ -60,7 +60,7 @@ returns-2 c =
     let look = n.before.before.before in
     let body = look.before.before.before in
     let a = body.before.before.before.before.args in
-    met-noted a.state.now a.packet.now _ _ _ _ _ body.before.read_head.ensures body.read-body.ensures look.before.of.ensures look.look.ensures (ap (λ (x : ℕ). x % 256) n.before.at.ensures) _ n.signal-number.ensures c.before.before.before.before.before.before.before.before.before.if1.false _ _ _ _ c.before.before.before.before.before.before.before.load.ensures c.before.before.before.before.before.at2.ensures (omega arith) c.before.before.before.heard-by.ensures c.before.before.put.ensures
+    met_noted a.state.now a.packet.now _ _ _ _ _ body.before.read_head.ensures body.read-body.ensures look.before.of.ensures look.look.ensures (ap (λ (x : ℕ). x % 256) n.before.at.ensures) _ n.signal-number.ensures c.before.before.before.before.before.before.before.before.before.if1.false _ _ _ _ c.before.before.before.before.before.before.before.load.ensures c.before.before.before.before.before.at2.ensures (omega arith) c.before.before.before.heard-by.ensures c.before.before.put.ensures
 
 pub adp-alive-spec : {M : Type 1} → statement M
 adp-alive-spec =

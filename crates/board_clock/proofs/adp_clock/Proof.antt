@@ -6,18 +6,18 @@ use native.Mathlib.Omega.{arith}
 use lib.ListN.{length, length-set}
 use borrow.Author.Rules.{rules}
 use borrow.Author.Tests.{not-true, not-false}
-use Rattle.state.specs.State.{sendersMost}
+use Rattle.state.specs.State.{senders_most}
 use Rattle.words.specs.Words.{word}
-use Rattle.words.specs.StateLaws.{state-facts}
+use Rattle.words.specs.StateLaws.{state_facts}
 use Rattle.words_look.specs.LookLaws.{Held, held_by}
-use Rattle.board_clock.specs.TickedLaws.{met-nine, met-back, Aging, aging-none, aging-more, met-on, map-short}
+use Rattle.board_clock.specs.TickedLaws.{met_nine, met_back, Aging, aging_none, aging_more, met_on, map_short}
 use Rattle.board_clock.proofs.adp_clock.Statement.{statement}
 use Rattle.board_clock.proofs.adp_clock.Tie as tie
 
 abbrev invariant-loop : tie.invariant-loop
 invariant-loop state₀ ms t count dropped₀ dead₀ i₀ state dropped dead i =
     (h : Held state₀) × Aging state₀ ms h state dropped dead i × (count ≡ word state₀ 4) × (t ≡ word state₀ 2)
-    × (count ≤ sendersMost)
+    × (count ≤ senders_most)
 
 abbrev decreases-loop : tie.decreases-loop
 decreases-loop state₀ ms t count dropped₀ dead₀ i₀ state dropped dead i = count - i
@@ -34,7 +34,7 @@ same_length c = search rules
 returns : tie.Need-returns invariant-loop decreases-loop
 returns c =
     let a = c.before.before.before.before.before.args in
-    met-nine a.state.now a.ms (sym c.before.before.within.ensures ∙ not-true _ c.before.if1.true) _ c.refused.ensures
+    met_nine a.state.now a.ms (sym c.before.before.within.ensures ∙ not-true _ c.before.if1.true) _ c.refused.ensures
 
 at-requires : tie.Need-at-requires invariant-loop decreases-loop
 at-requires c κs = search rules
@@ -49,7 +49,7 @@ returns-2 : tie.Need-returns-2 invariant-loop decreases-loop
 returns-2 c =
     let a = c.before.before.before.before.before.before.before.before.args in
     let held = held_by a.state.now (sym c.before.before.before.before.before.within.ensures ∙ not-false _ c.before.before.before.before.if1.false) in
-    met-back a.state.now a.ms held (rw c.before.before.at.ensures at c.before.if2.true) _ c.refused2.ensures
+    met_back a.state.now a.ms held (rw c.before.before.at.ensures at c.before.if2.true) _ c.refused2.ensures
 
 at-requires-2 : tie.Need-at-requires-2 invariant-loop decreases-loop
 at-requires-2 c κs = search rules
@@ -64,9 +64,9 @@ loop-holds : tie.Need-loop-init invariant-loop decreases-loop
 loop-holds c =
     let a = c.before.before.before.before.before.before.before.before.before.before.before.args in
     let held = held_by a.state.now (sym c.before.before.before.before.before.before.before.before.within.ensures ∙ not-false _ c.before.before.before.before.before.before.before.if1.false) in
-    let few = (state-facts a.state.now held.is_state).few in
+    let few = (state_facts a.state.now held.means_state).few in
     let count : c.at3.result % 256 ≡ word a.state.now 4 = ap (λ (x : ℕ). x % 256) c.at3.ensures ∙ mod-eq_of_lt (omega arith) in
-    (held, aging-none a.state.now a.ms held, count, c.before.before.at2.ensures, omega (arith, count))
+    (held, aging_none a.state.now a.ms held, count, c.before.before.at2.ensures, omega (arith, count))
 
 load-requires : tie.Need-load-requires invariant-loop decreases-loop
 load-requires c κs = search rules
@@ -103,7 +103,7 @@ loop-again c =
     let load = drop.before in
     let put = c.before.before.before.before in
     let less = c.before.before.before.before.before.before.before.before.before.before.before.loop-test.true in
-    (l.invariant.0, aging-more _ _ l.invariant.0 l.invariant.1 (omega (arith, less, l.invariant.2)) _ _ _ _ load.load.ensures (rw l.invariant.3 at drop.drops.ensures) die.dies.ensures put.before.aged.ensures _ _ _ put.put.ensures c.before.with-place.ensures c.with-place2.ensures, l.invariant.2, l.invariant.3, l.invariant.4)
+    (l.invariant.0, aging_more _ _ l.invariant.0 l.invariant.1 (omega (arith, less, l.invariant.2)) _ _ _ _ load.load.ensures (rw l.invariant.3 at drop.drops.ensures) die.dies.ensures put.before.aged.ensures _ _ _ put.put.ensures c.before.with-place.ensures c.with-place2.ensures, l.invariant.2, l.invariant.3, l.invariant.4)
 
 set-requires : tie.Need-set-requires invariant-loop decreases-loop
 set-requires c κs = search rules
@@ -111,23 +111,23 @@ set-requires c κs = search rules
 cast-t34 : tie.Need-overflow-cast-t34 invariant-loop decreases-loop
 cast-t34 c =
     let l = c.before.before.before.before.before.loop in
-    omega (arith, map-short _ _ l.invariant.0 l.invariant.1)
+    omega (arith, map_short _ _ l.invariant.0 l.invariant.1)
 
 cast-t35 : tie.Need-overflow-cast-t35 invariant-loop decreases-loop
 cast-t35 c =
     let l = c.before.before.before.before.before.loop in
-    omega (arith, map-short _ _ l.invariant.0 l.invariant.1)
+    omega (arith, map_short _ _ l.invariant.0 l.invariant.1)
 
 same-length-3 : tie.Need-same-length-3 invariant-loop decreases-loop
 same-length-3 c =
     let l = c.before.before.before.before.before.loop in
-    ap length c.before.before.set.ensures ∙ length-set l.state 3 _ ∙ l.invariant.1.still.many ∙ sym (state-facts _ l.invariant.0.is_state).many
+    ap length c.before.before.set.ensures ∙ length-set l.state 3 _ ∙ l.invariant.1.still.many ∙ sym (state_facts _ l.invariant.0.means_state).many
 
 returns-3 : tie.Need-returns-3 invariant-loop decreases-loop
 returns-3 c =
     let l = c.before.before.before.before.before.loop in
     let back = c.before.before.before.before.before.before.before.before.before.before in
-    met-on _ _ l.invariant.0 l.invariant.1 (omega (arith, c.before.before.before.before.loop-test.false, l.invariant.2)) (rw back.before.at.ensures at back.if2.false) _ c.before.before.set.ensures
+    met_on _ _ l.invariant.0 l.invariant.1 (omega (arith, c.before.before.before.before.loop-test.false, l.invariant.2)) (rw back.before.at.ensures at back.if2.false) _ c.before.before.set.ensures
 
 pub adp-clock-spec : {M : Type 1} → statement M
 adp-clock-spec =

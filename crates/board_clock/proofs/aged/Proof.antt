@@ -1,5 +1,5 @@
 -- Word by word. Assumes nothing.
-use Rattle.board_clock.specs.private.Aged.{agedBy}
+use Rattle.board_clock.specs.private.Aged.{aged_by}
 use borrow.Author.Rules.{rules}
 use Rattle.board_clock.proofs.aged.Statement.{statement}
 use Rattle.board_clock.proofs.aged.Tie as tie
@@ -29,7 +29,7 @@ unless-requires-8 : tie.Need-unless-requires-8
 unless-requires-8 c κs = search rules
 
 returns : tie.Need-returns
-unfolding agedBy
+unfolding aged_by
 returns c = rw (c.before.before.before.before.before.before.before.unless.ensures, c.before.before.before.before.before.before.unless2.ensures, c.before.before.before.before.before.unless3.ensures, c.before.before.before.before.unless4.ensures, c.before.before.before.unless5.ensures, c.before.before.unless6.ensures, c.before.unless7.ensures, c.unless8.ensures)
 
 pub aged-spec : {M : Type 1} → statement M

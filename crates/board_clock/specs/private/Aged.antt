@@ -5,8 +5,8 @@ use Rattle.words.specs.declared.Record.{Record}
 abbrev gone : Bool → ℕ → ℕ
 gone b x = cond b 0 x
 
-unfoldable pub agedBy : Record → Bool → Bool → Record
-agedBy r drop die = record {
+unfoldable pub aged_by : Record → Bool → Bool → Record
+aged_by r drop die = record {
   address = r.address;
   last = r.last;
   «open» = gone drop r.«open»;

@@ -1,7 +1,7 @@
 -- What is told before the header is read, two judges, and what an admitted PDU does. Assumes nothing.
 use Prim.Native.Nat.{ℕ, ◌%◌}
 use mathlib.Core.Path.{ap}
-use Rattle.board_message.specs.MessageLaws.{met-first, look-by, met-early, met-late, met-taken}
+use Rattle.board_message.specs.MessageLaws.{met_first, look_by, met_early, met_late, met_taken}
 use borrow.Author.Rules.{rules}
 use Rattle.board_message.proofs.adp_message.Statement.{statement}
 use Rattle.board_message.proofs.adp_message.Tie as tie
@@ -18,7 +18,7 @@ same_length c = search rules
 returns : tie.Need-returns
 returns c =
     let a = c.before.before.before.before.before.before.before.args in
-    met-first a.state.now a.storage.now a.packet.now _ c.before.before.early-number.ensures c.before.if1.true _ c.refused.ensures
+    met_first a.state.now a.storage.now a.packet.now _ c.before.before.early-number.ensures c.before.if1.true _ c.refused.ensures
 
 read-head-requires : tie.Need-read-head-requires
 read-head-requires c κs = search rules
@@ -54,8 +54,8 @@ returns-2 c =
     let a = early.before.before.before.before.before.args in
     let l = a.state.now in
     let counted = ap (λ (x : ℕ). x % 256) count.at.ensures in
-    let look = look-by l _ a.packet.now _ early.early-number.ensures head.before.if1.false _ _ _ counted place.place_of.ensures in
-    met-early l a.storage.now a.packet.now _ _ _ _ head.read_head.ensures place.before.of.ensures look counted _ n.packet-number.ensures c.before.if2.true _ c.refused2.ensures
+    let look = look_by l _ a.packet.now _ early.early-number.ensures head.before.if1.false _ _ _ counted place.place_of.ensures in
+    met_early l a.storage.now a.packet.now _ _ _ _ head.read_head.ensures place.before.of.ensures look counted _ n.packet-number.ensures c.before.if2.true _ c.refused2.ensures
 
 load-requires : tie.Need-load-requires
 load-requires c κs = search rules
@@ -102,9 +102,9 @@ returns-3 c =
     let a = early.before.before.before.before.before.args in
     let l = a.state.now in
     let counted = ap (λ (x : ℕ). x % 256) count.at.ensures in
-    let look = look-by l _ a.packet.now _ early.early-number.ensures head.before.if1.false _ _ _ counted place.place_of.ensures in
+    let look = look_by l _ a.packet.now _ early.early-number.ensures head.before.if1.false _ _ _ counted place.place_of.ensures in
     let made = rw (test.at2.ensures, clock.at4.ensures) at o.admit.ensures in
-    met-late l a.storage.now a.packet.now _ _ _ _ head.read_head.ensures place.before.of.ensures look counted _ n.packet-number.ensures load.before.before.if2.false _ load.load.ensures _ _ _ (ap (λ (x : ℕ). x % 65536) n1.at3.ensures) o.before.sender.ensures made _ c.before.before.refusal.ensures c.before.if3.true _ c.in-numbers.ensures
+    met_late l a.storage.now a.packet.now _ _ _ _ head.read_head.ensures place.before.of.ensures look counted _ n.packet-number.ensures load.before.before.if2.false _ load.load.ensures _ _ _ (ap (λ (x : ℕ). x % 65536) n1.at3.ensures) o.before.sender.ensures made _ c.before.before.refusal.ensures c.before.if3.true _ c.in-numbers.ensures
 
 joined-requires : tie.Need-joined-requires
 joined-requires c κs = search rules
@@ -142,11 +142,11 @@ returns-4 c =
     let a = early.before.before.before.before.before.args in
     let l = a.state.now in
     let counted = ap (λ (x : ℕ). x % 256) count.at.ensures in
-    let look = look-by l _ a.packet.now _ early.early-number.ensures head.before.if1.false _ _ _ counted place.place_of.ensures in
+    let look = look_by l _ a.packet.now _ early.early-number.ensures head.before.if1.false _ _ _ counted place.place_of.ensures in
     let made = rw (test.at2.ensures, clock.at4.ensures) at o.admit.ensures in
     let put = c.before.before.before.before.before.before.before.before.before in
     let store = c.before.before.before.before.before in
-    met-taken l a.storage.now a.packet.now _ _ _ _ head.read_head.ensures place.before.of.ensures look counted _ n.packet-number.ensures load.before.before.if2.false _ load.load.ensures _ _ _ (ap (λ (x : ℕ). x % 65536) n1.at3.ensures) o.before.sender.ensures made _ c.before.before.before.before.before.before.before.before.before.before.before.before.before.before.refusal.ensures c.before.before.before.before.before.before.before.before.before.before.before.before.before.if3.false _ _ c.before.where_to.ensures store.store.ensures _ _ put.before.joined.ensures put.put.ensures _ c.in-numbers2.ensures
+    met_taken l a.storage.now a.packet.now _ _ _ _ head.read_head.ensures place.before.of.ensures look counted _ n.packet-number.ensures load.before.before.if2.false _ load.load.ensures _ _ _ (ap (λ (x : ℕ). x % 65536) n1.at3.ensures) o.before.sender.ensures made _ c.before.before.before.before.before.before.before.before.before.before.before.before.before.before.refusal.ensures c.before.before.before.before.before.before.before.before.before.before.before.before.before.if3.false _ _ c.before.where_to.ensures store.store.ensures _ _ put.before.joined.ensures put.put.ensures _ c.in-numbers2.ensures
 
 pub adp-message-spec : {M : Type 1} → statement M
 adp-message-spec =

@@ -5,19 +5,19 @@ use mathlib.Core.List.{◌++◌}
 use native.Mathlib.Omega.{arith}
 use borrow.Author.Rules.{rules}
 use lib.ListN.{length, drop}
-use Rattle.octets.specs.RunLaws.{length-laid}
-use Rattle.state.specs.State.{sendersMost}
-use Rattle.words.specs.Words.{place, wordsMost, front}
-use Rattle.board_setup.specs.StartedLaws.{settings-many, senders-none, sender-set, words-all}
+use Rattle.octets.specs.RunLaws.{length_laid}
+use Rattle.state.specs.State.{senders_most}
+use Rattle.words.specs.Words.{place, words_most, front}
+use Rattle.board_setup.specs.StartedLaws.{settings_many, senders_none, sender_set, words_all}
 use Rattle.board_setup.proofs.write.Statement.{statement}
 use Rattle.board_setup.proofs.write.Tie as tie
 
 abbrev invariant-loop : tie.invariant-loop
 invariant-loop words₀ state i₀ words i =
-    (i ≤ sendersMost) × (length words₀ ≡ wordsMost) × (length words ≡ wordsMost) × (words ≡ front state i ++ drop (place i) words₀)
+    (i ≤ senders_most) × (length words₀ ≡ words_most) × (length words ≡ words_most) × (words ≡ front state i ++ drop (place i) words₀)
 
 abbrev decreases-loop : tie.decreases-loop
-decreases-loop words₀ state i₀ words i = sendersMost - i
+decreases-loop words₀ state i₀ words i = senders_most - i
 
 write-settings-requires : tie.Need-write-settings-requires invariant-loop decreases-loop
 write-settings-requires c κs = search rules
@@ -26,8 +26,8 @@ loop-holds : tie.Need-loop-init invariant-loop decreases-loop
 loop-holds c =
     let set = c.before.before in
     let a = set.before.before.before.args in
-    let many = settings-many a.words.now _ a.t2 (omega arith) set.write-settings.ensures in
-    (omega arith, many, many, senders-none a.words.now _ a.t2 set.write-settings.ensures)
+    let many = settings_many a.words.now _ a.t2 (omega arith) set.write-settings.ensures in
+    (omega arith, many, many, senders_none a.words.now _ a.t2 set.write-settings.ensures)
 
 cast-loop : tie.Need-overflow-cast-loop invariant-loop decreases-loop
 cast-loop c = omega arith
@@ -58,7 +58,7 @@ loop-again c =
     let put = c.before.before in
     let l = c.before.before.before.before.before.before.before.loop in
     let a = c.before.before.before.before.before.before.before.before.before.before.before.before.before.args in
-    (omega arith, l.invariant.1, ap length put.put.ensures ∙ length-laid l.words _ _ ∙ l.invariant.2, put.put.ensures ∙ sender-set _ l.words a.t2 l.i _ l.invariant.1 (omega arith) l.invariant.3 put.before.of.ensures)
+    (omega arith, l.invariant.1, ap length put.put.ensures ∙ length_laid l.words _ _ ∙ l.invariant.2, put.put.ensures ∙ sender_set _ l.words a.t2 l.i _ l.invariant.1 (omega arith) l.invariant.3 put.before.of.ensures)
 
 same_length : tie.Need-same-length invariant-loop decreases-loop
 same_length c =
@@ -70,7 +70,7 @@ returns c =
     let l = c.before.loop in
     let set = c.before.before.before.before.write-settings in
     let a = c.before.before.before.before.before.before.before.args in
-    l.invariant.3 ∙ words-all set.new.0 a.t2 l.i l.invariant.1 (omega arith)
+    l.invariant.3 ∙ words_all set.new.0 a.t2 l.i l.invariant.1 (omega arith)
 
 pub write_spec : {M : Type 1} → statement M
 write_spec =

@@ -2,8 +2,8 @@
 use mathlib.Core.Path.{sym}
 use native.Mathlib.Omega.{arith}
 use lib.ListN.{length-set}
-use Rattle.words.specs.WordsLaws.{flag-byte}
-use Rattle.board_setup.specs.StartedLaws.{settings-set}
+use Rattle.words.specs.WordsLaws.{flag_byte}
+use Rattle.board_setup.specs.StartedLaws.{settings_set}
 use borrow.Author.Rules.{rules}
 use Rattle.board_setup.proofs.write_settings.Statement.{statement}
 use Rattle.board_setup.proofs.write_settings.Tie as tie
@@ -53,7 +53,7 @@ same_length c = search rules
 returns : tie.Need-returns
 returns c =
     let a = c.before.before.before.before.before.before.before.before.args in
-    rw (flag-byte a.state.test, sym c.groups-word.ensures) (settings-set a.words.now _ _ _ _ _ _ _ (omega arith))
+    rw (flag_byte a.state.test, sym c.groups-word.ensures) (settings_set a.words.now _ _ _ _ _ _ _ (omega arith))
 
 pub write-settings-spec : {M : Type 1} → statement M
 write-settings-spec =

@@ -1,7 +1,7 @@
 -- The call, and one of two counts. Assumes nothing.
 use mathlib.Core.Path.{ap}
 use Rattle.board.specs.declared.Told.{Told}
-use Rattle.board.specs.TalliedLaws.{tally-answer, tally-refusal}
+use Rattle.board.specs.TalliedLaws.{tally_answer, tally_refusal}
 use borrow.Author.Rules.{rules}
 use Rattle.board_tallied.proofs.adp_message_tallied.Statement.{statement}
 use Rattle.board_tallied.proofs.adp_message_tallied.Tie as tie
@@ -37,7 +37,7 @@ returns : tie.Need-returns
 returns c =
     let m = c.before.before.before.before.before.before.before.before.adp-message in
     let a = c.before.before.before.before.before.before.before.before.before.before.before.before.before.before.args in
-    (m.ensures.0, (m.ensures.1.0, (m.ensures.1.1, tally-answer a.tally.now a.state.now a.storage.now a.packet.now _ _ (ap (λ (t : Told). t.number) m.ensures.0) c.before.before.if1.true c.one_more.ensures)))
+    (m.ensures.0, (m.ensures.1.0, (m.ensures.1.1, tally_answer a.tally.now a.state.now a.storage.now a.packet.now _ _ (ap (λ (t : Told). t.number) m.ensures.0) c.before.before.if1.true c.one_more.ensures)))
 
 same-length-3 : tie.Need-same-length-3
 same-length-3 c = search rules
@@ -49,7 +49,7 @@ returns-2 : tie.Need-returns-2
 returns-2 c =
     let m = c.before.before.before.before.before.before.before.before.adp-message in
     let a = c.before.before.before.before.before.before.before.before.before.before.before.before.before.before.args in
-    (m.ensures.0, (m.ensures.1.0, (m.ensures.1.1, tally-refusal a.tally.now a.state.now a.storage.now a.packet.now _ _ (ap (λ (t : Told). t.number) m.ensures.0) c.before.before.if1.false c.one-more2.ensures)))
+    (m.ensures.0, (m.ensures.1.0, (m.ensures.1.1, tally_refusal a.tally.now a.state.now a.storage.now a.packet.now _ _ (ap (λ (t : Told). t.number) m.ensures.0) c.before.before.if1.false c.one-more2.ensures)))
 
 pub adp-message-tallied-spec : {M : Type 1} → statement M
 adp-message-tallied-spec =

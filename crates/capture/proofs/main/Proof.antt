@@ -17,8 +17,8 @@ use Rattle.capture.proofs.main.Statement.{statement}
 use Rattle.capture.proofs.main.Tie as tie
 
 -- Of t turns u are left, and one is taken.
-one-turn : (t u : ℕ) → 0 < u → u ≤ t → t - u + 1 ≡ t - (u - 1)
-one-turn t u some most = omega (arith, some, most)
+one_turn : (t u : ℕ) → 0 < u → u ≤ t → t - u + 1 ≡ t - (u - 1)
+one_turn t u some most = omega (arith, some, most)
 
 abbrev invariant-loop : tie.invariant-loop
 invariant-loop storage₀ field₀ state₀ turns₀ storage field state turns = (length storage ≡ 65536) × (length field ≡ 65538) × (turns ≤ turns₀) × OfRun storage₀ (turns₀ - turns) (record { state = state; room = storage })
@@ -90,7 +90,7 @@ loop-again c =
       read.auto.0 ∙ before.invariant.1,
       omega arith,
       subst (λ (n : ℕ). OfRun (replicate 65536 0) n (record { state = turn.next-turn.result.state; room = left ++ drop room.result before.storage }))
-          (one-turn 18446744073709551615 before.turns test.loop-test.true before.invariant.2)
+          (one_turn 18446744073709551615 before.turns test.loop-test.true before.invariant.2)
           (goes_on (replicate 65536 0) (18446744073709551615 - before.turns) (record { state = before.state; room = before.storage }) before.invariant.3
           room.result room.ensures _ turn.next-turn.result left turn.next-turn.ensures.0 turn.next-turn.ensures.1 on),
     )

@@ -4,7 +4,7 @@ use native.Mathlib.Omega.{arith}
 use borrow.Author.Tests.{eq-eqb, ne_eqb, lt-ltb}
 use Rattle.capture_fields.specs.Field.{next_of}
 use mathlib.Core.Path.{sym, ◌∙◌}
-use Rattle.capture_fields.specs.FieldLaws.{next-bad, next-cut, next-whole}
+use Rattle.capture_fields.specs.FieldLaws.{next_bad, next_cut, next_whole}
 use Rattle.capture_fields.proofs.next_field.Statement.{statement}
 use Rattle.capture_fields.proofs.next_field.Tie as tie
 
@@ -35,7 +35,7 @@ returns-3 : tie.Need-returns-3
 returns-3 c =
     let k = c.before.before in
     let s = k.before.before.before.before.before.before.args.octets.now in
-    next-bad s k.before.read1.result k.before.before.read2.result k.kind-of.result (omega arith) k.before.read1.ensures k.before.before.read2.ensures k.kind-of.ensures (sym c.before.is-bad.ensures ∙ c.if3.true)
+    next_bad s k.before.read1.result k.before.before.read2.result k.kind-of.result (omega arith) k.before.read1.ensures k.before.before.read2.ensures k.kind-of.ensures (sym c.before.is-bad.ensures ∙ c.if3.true)
 
 sub-if4 : tie.Need-overflow-sub-if4
 sub-if4 c = search rules
@@ -44,13 +44,13 @@ returns-4 : tie.Need-returns-4
 returns-4 c =
     let k = c.before.before.before in
     let s = k.before.before.before.before.before.before.args.octets.now in
-    next-cut s k.before.read1.result k.before.before.read2.result k.kind-of.result (omega arith) k.before.read1.ensures k.before.before.read2.ensures k.kind-of.ensures (sym c.before.before.is-bad.ensures ∙ c.before.if3.false) c.if4.true
+    next_cut s k.before.read1.result k.before.before.read2.result k.kind-of.result (omega arith) k.before.read1.ensures k.before.before.read2.ensures k.kind-of.ensures (sym c.before.before.is-bad.ensures ∙ c.before.if3.false) c.if4.true
 
 returns-5 : tie.Need-returns-5
 returns-5 c =
     let k = c.before.before.before in
     let s = k.before.before.before.before.before.before.args.octets.now in
-    next-whole s k.before.read1.result k.before.before.read2.result k.kind-of.result (omega arith) k.before.read1.ensures k.before.before.read2.ensures k.kind-of.ensures (sym c.before.before.is-bad.ensures ∙ c.before.if3.false) c.if4.false
+    next_whole s k.before.read1.result k.before.before.read2.result k.kind-of.result (omega arith) k.before.read1.ensures k.before.before.read2.ensures k.kind-of.ensures (sym c.before.before.is-bad.ensures ∙ c.before.if3.false) c.if4.false
 
 pub next-field-spec : {M : Type 1} → statement M
 next-field-spec =

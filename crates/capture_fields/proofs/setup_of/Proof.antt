@@ -1,6 +1,6 @@
 -- Each number is read from its place. Assumes nothing.
 use borrow.Author.Rules.{rules}
-use Rattle.capture_fields.specs.Field.{setupOf}
+use Rattle.capture_fields.specs.Field.{setup_of}
 use Rattle.capture_fields.proofs.setup_of.Statement.{statement}
 use Rattle.capture_fields.proofs.setup_of.Tie as tie
 
@@ -41,17 +41,17 @@ senders-of-requires : tie.Need-senders-of-requires
 senders-of-requires c κs = search rules
 
 returns : tie.Need-returns
-unfolding setupOf
+unfolding setup_of
 returns c =
     simp (
-      c.senders-of.ensures,
+      c.senders_of.ensures,
       c.before.read4.ensures,
       c.before.before.read2.ensures,
       c.before.before.before.read1.ensures,
       c.before.before.before.before.address-in4.ensures,
       c.before.before.before.before.before.address-in3.ensures,
       c.before.before.before.before.before.before.address-in2.ensures,
-      c.before.before.before.before.before.before.before.address-in.ensures,
+      c.before.before.before.before.before.before.before.address_in.ensures,
     )
 
 pub setup-of-spec : {M : Type 1} → statement M

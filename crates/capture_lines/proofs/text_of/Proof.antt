@@ -2,7 +2,7 @@
 use borrow.Author.Rules.{rules}
 use native.Mathlib.Omega.{arith}
 use Rattle.capture_lines.specs.Line.{line_of}
-use Rattle.capture_lines.specs.LineLaws.{text-counts, carries-letter, carries-newline}
+use Rattle.capture_lines.specs.LineLaws.{text_counts, carries_letter, carries_newline}
 use Rattle.capture_lines.proofs.text_of.Statement.{statement}
 use Rattle.capture_lines.proofs.text_of.Tie as tie
 
@@ -67,33 +67,33 @@ letter-requires : tie.Need-letter-requires
 letter-requires c κs = search rules
 
 newline-requires : tie.Need-newline-requires
-newline-requires c κs = omega (arith, (carries-letter 69 _ c.letter.ensures).most)
+newline-requires c κs = omega (arith, (carries_letter 69 _ c.letter.ensures).most)
 
 returns : tie.Need-returns
 unfolding line_of
-returns c = (rw c.before.enum_told.given.1 c.nothing.ensures, text-counts _ _ c.nothing.ensures)
+returns c = (rw c.before.enum_told.given.1 c.nothing.ensures, text_counts _ _ c.nothing.ensures)
 
 returns-2 : tie.Need-returns-2
 unfolding line_of
-returns-2 c = (rw c.before.before.line.given.1 c.one.ensures, text-counts _ _ c.one.ensures)
+returns-2 c = (rw c.before.before.line.given.1 c.one.ensures, text_counts _ _ c.one.ensures)
 
 returns-3 : tie.Need-returns-3
 unfolding line_of
-returns-3 c = (rw c.before.before.line2.given.1 c.four.ensures, text-counts _ _ c.four.ensures)
+returns-3 c = (rw c.before.before.line2.given.1 c.four.ensures, text_counts _ _ c.four.ensures)
 
 returns-4 : tie.Need-returns-4
 unfolding line_of
-returns-4 c = (rw c.before.before.line3.given.1 c.three.ensures, text-counts _ _ c.three.ensures)
+returns-4 c = (rw c.before.before.line3.given.1 c.three.ensures, text_counts _ _ c.three.ensures)
 
 returns-5 : tie.Need-returns-5
 unfolding line_of
-returns-5 c = (rw c.before.before.line4.given.1 c.one2.ensures, text-counts _ _ c.one2.ensures)
+returns-5 c = (rw c.before.before.line4.given.1 c.one2.ensures, text_counts _ _ c.one2.ensures)
 
 returns-6 : tie.Need-returns-6
 unfolding line_of
 returns-6 c =
-    let end = carries-newline _ 1 _ _ (carries-letter 69 _ c.before.letter.ensures) (omega arith) c.newline.ensures in
-    (rw c.before.before.enum-told2.given.1 end.text, text-counts _ _ end.text)
+    let end = carries_newline _ 1 _ _ (carries_letter 69 _ c.before.letter.ensures) (omega arith) c.newline.ensures in
+    (rw c.before.before.enum-told2.given.1 end.text, text_counts _ _ end.text)
 
 pub text-of-spec : {M : Type 1} → statement M
 text-of-spec =

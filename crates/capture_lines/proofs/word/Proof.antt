@@ -1,9 +1,9 @@
 -- A blank and the digits, laid down behind the text. Assumes nothing.
 use borrow.Author.Rules.{rules}
 use native.Mathlib.Omega.{arith}
-use Rattle.octets.specs.Split.{mapped-length}
-use Rattle.capture_lines.specs.LineLaws.{word-added}
-use Rattle.capture_lines.specs.LineLaws.{digits-room}
+use Rattle.octets.specs.Split.{mapped_length}
+use Rattle.capture_lines.specs.LineLaws.{word_added}
+use Rattle.capture_lines.specs.LineLaws.{digits_room}
 use Rattle.capture_lines.proofs.word.Statement.{statement}
 use Rattle.capture_lines.proofs.word.Tie as tie
 
@@ -38,12 +38,12 @@ add-t16 : tie.Need-overflow-add-t16
 add-t16 c = search rules
 
 add-t20 : tie.Need-overflow-add-t20
-add-t20 c = omega (arith, digits-room _ _ (search rules) c.before.before.before.before.decimal.ensures.1.0)
+add-t20 c = omega (arith, digits_room _ _ (search rules) c.before.before.before.before.decimal.ensures.1.0)
 
 returns : tie.Need-returns
 returns c =
     let d = c.before.before.before.before in
-    rw (c.before.lay2.ensures, c.before.before.before.before.before.before.before.lay.ensures) (word-added c.before.before.before.before.before.before.before.before.before.before.before.args.t c.before.before.before.before.before.before.before.before.before.before.before.args.n d.decimal.result _ c.before.before.before.before.before.before.before.before.before.before.before.requires (search (rules, mapped-length)) (search rules) d.decimal.ensures.1.0 d.decimal.ensures.1.1)
+    rw (c.before.lay2.ensures, c.before.before.before.before.before.before.before.lay.ensures) (word_added c.before.before.before.before.before.before.before.before.before.before.before.args.t c.before.before.before.before.before.before.before.before.before.before.before.args.n d.decimal.result _ c.before.before.before.before.before.before.before.before.before.before.before.requires (search (rules, mapped_length)) (search rules) d.decimal.ensures.1.0 d.decimal.ensures.1.1)
 
 pub word-spec : {M : Type 1} → statement M
 word-spec =

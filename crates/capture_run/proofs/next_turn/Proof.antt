@@ -1,7 +1,7 @@
 -- Each arm is that of the definition. Assumes nothing.
 use borrow.Author.Rules.{rules}
 use mathlib.Core.Path.{refl, sym, ◌∙◌}
-use Rattle.capture_run.specs.Turn.{turnBy, turnStorage}
+use Rattle.capture_run.specs.Turn.{turn_by, turn_storage}
 use Rattle.capture_run.proofs.next_turn.Statement.{statement}
 use Rattle.capture_run.proofs.next_turn.Tie as tie
 
@@ -33,19 +33,19 @@ turn-of-requires : tie.Need-turn-of-requires
 turn-of-requires c κs = search rules
 
 returns : tie.Need-returns
-unfolding turnBy turnStorage
+unfolding turn_by turn_storage
 returns c =
     let is = sym c.before.before.next_field.ensures ∙ c.enum_told.given.1 in
     rw is (refl, refl)
 
 returns-2 : tie.Need-returns-2
-unfolding turnBy turnStorage
+unfolding turn_by turn_storage
 returns-2 c =
     let is = sym c.before.before.before.next_field.ensures ∙ c.before.enum-told2.given.1 in
     rw is (c.end.ensures, refl)
 
 returns-3 : tie.Need-returns-3
-unfolding turnBy turnStorage
+unfolding turn_by turn_storage
 returns-3 c =
     let is = sym c.before.before.before.next_field.ensures ∙ c.before.enum-told3.given.1 in
     rw is (c.end2.ensures, refl)
@@ -54,7 +54,7 @@ same_length : tie.Need-same-length
 same_length c = search rules
 
 returns-4 : tie.Need-returns-4
-unfolding turnBy turnStorage
+unfolding turn_by turn_storage
 returns-4 c =
     let is = sym c.before.before.before.before.before.before.before.before.next_field.ensures ∙ c.before.before.before.before.before.before.next.given.1 in
     rw (is, ← c.before.before.before.contents.ensures) c.before.before.turn-of.ensures

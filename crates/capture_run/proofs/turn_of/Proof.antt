@@ -1,7 +1,7 @@
 -- Each arm is that of the definition. Assumes nothing.
 use borrow.Author.Rules.{rules}
 use mathlib.Core.Path.{refl}
-use Rattle.capture_run.specs.Turn.{turn_of, storageOf}
+use Rattle.capture_run.specs.Turn.{turn_of, storage_of}
 use Rattle.capture_run.proofs.turn_of.Statement.{statement}
 use Rattle.capture_run.proofs.turn_of.Tie as tie
 
@@ -36,26 +36,26 @@ end-requires : tie.Need-end-requires
 end-requires c κs = search rules
 
 returns : tie.Need-returns
-unfolding turn_of storageOf
+unfolding turn_of storage_of
 returns c = rw c.before.enum_told.given.1 (c.setup-turn.ensures, refl)
 
 same_length : tie.Need-same-length
 same_length c = search rules
 
 returns-2 : tie.Need-returns-2
-unfolding turn_of storageOf
+unfolding turn_of storage_of
 returns-2 c = rw c.before.before.before.before.enum-told2.given.1 c.before.before.message-turn.ensures
 
 returns-3 : tie.Need-returns-3
-unfolding turn_of storageOf
+unfolding turn_of storage_of
 returns-3 c = rw c.before.enum-told3.given.1 (c.clock-turn.ensures, refl)
 
 returns-4 : tie.Need-returns-4
-unfolding turn_of storageOf
+unfolding turn_of storage_of
 returns-4 c = rw c.before.enum-told4.given.1 (c.alive-turn.ensures, refl)
 
 returns-5 : tie.Need-returns-5
-unfolding turn_of storageOf
+unfolding turn_of storage_of
 returns-5 c = rw c.before.enum-told5.given.1 (c.end.ensures, refl)
 
 pub turn-of-spec : {M : Type 1} → statement M

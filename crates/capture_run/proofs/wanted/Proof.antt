@@ -2,7 +2,7 @@
 use borrow.Author.Rules.{rules}
 use mathlib.Core.Path.{refl, sym, ◌∙◌}
 use native.Mathlib.Omega.{arith}
-use Rattle.capture_run.specs.Turn.{wantedBy}
+use Rattle.capture_run.specs.Turn.{wanted_by}
 use Rattle.capture_run.proofs.wanted.Statement.{statement}
 use Rattle.capture_run.proofs.wanted.Tie as tie
 
@@ -25,25 +25,25 @@ enum-told-4 : tie.Need-enum-told-4
 enum-told-4 c = search rules
 
 returns : tie.Need-returns
-unfolding wantedBy
+unfolding wanted_by
 returns c =
     let is = sym c.before.before.next_field.ensures ∙ c.enum_told.given.1 in
     rw is (refl, omega arith)
 
 returns-2 : tie.Need-returns-2
-unfolding wantedBy
+unfolding wanted_by
 returns-2 c =
     let is = sym c.before.before.before.next_field.ensures ∙ c.before.enum-told2.given.1 in
     rw is c.size-behind.ensures
 
 returns-3 : tie.Need-returns-3
-unfolding wantedBy
+unfolding wanted_by
 returns-3 c =
     let is = sym c.before.before.next_field.ensures ∙ c.enum-told3.given.1 in
     rw is (refl, omega arith)
 
 returns-4 : tie.Need-returns-4
-unfolding wantedBy
+unfolding wanted_by
 returns-4 c =
     let is = sym c.before.before.next_field.ensures ∙ c.enum-told4.given.1 in
     rw is (refl, omega arith)

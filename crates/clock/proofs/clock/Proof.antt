@@ -4,18 +4,18 @@ use mathlib.Core.Path.{◌≡◌, refl, sym, ap, ◌∙◌}
 use native.Mathlib.Omega.{arith}
 use borrow.Author.Rules.{rules}
 use borrow.Author.Tests.{not-true, not-false}
-use Rattle.rules.specs.calls.Clock.{drops, dies, agedSenders, mapWhere, notTicked}
-use Rattle.rules.specs.calls.ClockLaws.{map-again, map_below, state-more, ticked-is, clock-nine, clock-back, clock-on}
-use Rattle.state.specs.State.{sendersMost, withSenders}
-use Rattle.state.specs.LimitsLaws.{valid-count}
+use Rattle.rules.specs.calls.Clock.{drops, dies, aged_senders, map_where, not_ticked}
+use Rattle.rules.specs.calls.ClockLaws.{map_again, map_below, state_more, ticked_is, clock_nine, clock_back_lem, clock_on}
+use Rattle.state.specs.State.{senders_most, with_senders}
+use Rattle.state.specs.LimitsLaws.{valid_count}
 use Rattle.state.specs.declared.Receiver.{Receiver}
 use Rattle.clock.proofs.clock.Statement.{statement}
 use Rattle.clock.proofs.clock.Tie as tie
 
 abbrev invariant-loop : tie.invariant-loop
 invariant-loop ms state₀ t count dropped₀ dead₀ i₀ state dropped dead i =
-    (i ≤ count) × (count ≤ sendersMost) × (dropped ≡ mapWhere (drops t ms) state₀.senders i) × (dead ≡ mapWhere (dies ms) state₀.senders i)
-    × (state ≡ withSenders state₀ (agedSenders t ms state₀.senders i))
+    (i ≤ count) × (count ≤ senders_most) × (dropped ≡ map_where (drops t ms) state₀.senders i) × (dead ≡ map_where (dies ms) state₀.senders i)
+    × (state ≡ with_senders state₀ (aged_senders t ms state₀.senders i))
 
 abbrev decreases-loop : tie.decreases-loop
 decreases-loop ms state₀ t count dropped₀ dead₀ i₀ state dropped dead i = count - i
@@ -24,28 +24,28 @@ within-requires : tie.Need-within-requires invariant-loop decreases-loop
 within-requires c κs = search rules
 
 returns : tie.Need-returns invariant-loop decreases-loop
-unfolding notTicked
+unfolding not_ticked
 returns c =
     let l = c.before in
     let a = l.before.args in
-    clock-nine a.t1 a.ms (sym l.within.ensures ∙ not-true _ c.if1.true)
+    clock_nine a.t1 a.ms (sym l.within.ensures ∙ not-true _ c.if1.true)
 
 returns-2 : tie.Need-returns-2 invariant-loop decreases-loop
-unfolding notTicked
+unfolding not_ticked
 returns-2 c =
     let ok = c.before in
     let l = ok.before in
     let a = l.before.args in
-    clock-back a.t1 a.ms (sym l.within.ensures ∙ not-false _ ok.if1.false) c.if2.true
+    clock_back_lem a.t1 a.ms (sym l.within.ensures ∙ not-false _ ok.if1.false) c.if2.true
 
 loop-holds : tie.Need-loop-init invariant-loop decreases-loop
-unfolding mapWhere agedSenders
+unfolding map_where aged_senders
 loop-holds c =
     let ok = c.before in
     let l = ok.before in
     let a = l.before.args in
     let v = sym l.within.ensures ∙ not-false _ ok.if1.false in
-    (omega arith, valid-count a.t1 v, refl, refl, refl)
+    (omega arith, valid_count a.t1 v, refl, refl, refl)
 
 cast-s : tie.Need-overflow-cast-s invariant-loop decreases-loop
 cast-s c = omega arith
@@ -99,9 +99,9 @@ loop-again c =
     let m = ap (λ (v : Receiver). v.senders) l.invariant.4 in (
       omega arith,
       omega arith,
-      dropped.with-place.ensures ∙ map-again w.t a.ms (drops w.t a.ms) w.senders _ l.i _ _ m l.invariant.2 dropped.before.drops.ensures,
-      c.before.with-place2.ensures ∙ map-again w.t a.ms (dies a.ms) w.senders _ l.i _ _ m l.invariant.3 c.before.before.dies.ensures,
-      state-more w l.state w.t a.ms l.i _ l.invariant.4 c.aged.ensures,
+      dropped.with-place.ensures ∙ map_again w.t a.ms (drops w.t a.ms) w.senders _ l.i _ _ m l.invariant.2 dropped.before.drops.ensures,
+      c.before.with-place2.ensures ∙ map_again w.t a.ms (dies a.ms) w.senders _ l.i _ _ m l.invariant.3 c.before.before.dies.ensures,
+      state_more w l.state w.t a.ms l.i _ l.invariant.4 c.aged.ensures,
     )
 
 returns-3 : tie.Need-returns-3 invariant-loop decreases-loop
@@ -112,7 +112,7 @@ returns-3 c =
     let looked = ok.before in
     let a = looked.before.args in
     let v = sym looked.within.ensures ∙ not-false _ ok.if1.false in
-    ticked-is a.t1 l.state a.ms l.i _ _ (omega arith) l.invariant.4 l.invariant.2 l.invariant.3 ∙ clock-on a.t1 a.ms v on.if2.false
+    ticked_is a.t1 l.state a.ms l.i _ _ (omega arith) l.invariant.4 l.invariant.2 l.invariant.3 ∙ clock_on a.t1 a.ms v on.if2.false
 
 pub clock-spec : {M : Type 1} → statement M
 clock-spec =

@@ -1,5 +1,5 @@
 -- Number by number. Assumes nothing.
-use Rattle.edges_fields.specs.Fields.{groupsIn}
+use Rattle.edges_fields.specs.Fields.{groups_in}
 use borrow.Author.Rules.{rules}
 use Rattle.edges_fields.proofs.groups_in.Statement.{statement}
 use Rattle.edges_fields.proofs.groups_in.Tie as tie
@@ -35,7 +35,7 @@ read1-requires-9 : tie.Need-read1-requires-9
 read1-requires-9 c κs = search rules
 
 returns : tie.Need-returns
-unfolding groupsIn
+unfolding groups_in
 returns c = rw (c.before.before.before.before.before.before.before.before.read1.ensures, c.before.before.before.before.before.before.before.read12.ensures, c.before.before.before.before.before.before.read13.ensures, c.before.before.before.before.before.read14.ensures, c.before.before.before.before.read15.ensures, c.before.before.before.read16.ensures, c.before.before.read17.ensures, c.before.read18.ensures, c.read19.ensures, c.before.before.before.before.before.before.before.before.before.from.ensures)
 
 pub groups-in-spec : {M : Type 1} → statement M

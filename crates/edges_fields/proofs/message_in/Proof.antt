@@ -1,5 +1,5 @@
 -- Number by number. Assumes nothing.
-use Rattle.edges_fields.specs.Fields.{messageIn}
+use Rattle.edges_fields.specs.Fields.{message_in}
 use borrow.Author.Rules.{rules}
 use Rattle.edges_fields.proofs.message_in.Statement.{statement}
 use Rattle.edges_fields.proofs.message_in.Tie as tie
@@ -32,7 +32,7 @@ read8-requires-2 : tie.Need-read8-requires-2
 read8-requires-2 c κs = search rules
 
 returns : tie.Need-returns
-unfolding messageIn
+unfolding message_in
 returns c = rw (c.before.before.before.before.before.before.before.before.read4.ensures, c.before.before.before.before.before.before.before.read42.ensures, c.before.before.before.before.before.before.read2.ensures, c.before.before.before.before.before.read22.ensures, c.before.before.before.before.read1.ensures, c.before.before.before.read23.ensures, c.before.before.read8.ensures, c.before.read12.ensures, c.read82.ensures)
 
 pub message-in-spec : {M : Type 1} → statement M

@@ -1,5 +1,5 @@
 -- Number by number. Assumes nothing.
-use Rattle.edges_fields.specs.Fields.{senderIn}
+use Rattle.edges_fields.specs.Fields.{sender_in}
 use borrow.Author.Rules.{rules}
 use Rattle.edges_fields.proofs.sender_in.Statement.{statement}
 use Rattle.edges_fields.proofs.sender_in.Tie as tie
@@ -29,8 +29,8 @@ read1-requires-2 : tie.Need-read1-requires-2
 read1-requires-2 c κs = search rules
 
 returns : tie.Need-returns
-unfolding senderIn
-returns c = rw (c.before.before.before.before.before.before.before.address-in.ensures, c.before.before.before.before.before.before.read4.ensures, c.before.before.before.before.before.read42.ensures, c.before.before.before.before.message-in.ensures, c.before.before.before.read8.ensures, c.before.before.read43.ensures, c.before.read1.ensures, c.read12.ensures)
+unfolding sender_in
+returns c = rw (c.before.before.before.before.before.before.before.address_in.ensures, c.before.before.before.before.before.before.read4.ensures, c.before.before.before.before.before.read42.ensures, c.before.before.before.before.message-in.ensures, c.before.before.before.read8.ensures, c.before.before.read43.ensures, c.before.read1.ensures, c.read12.ensures)
 
 pub sender-in-spec : {M : Type 1} → statement M
 sender-in-spec =

@@ -1,5 +1,5 @@
 -- The record at its place. Assumes nothing.
-use Rattle.edges_fields.specs.Fields.{damagedSender}
+use Rattle.edges_fields.specs.Fields.{damaged_sender}
 use borrow.Author.Rules.{rules}
 use Rattle.edges_fields.proofs.with_sender.Statement.{statement}
 use Rattle.edges_fields.proofs.with_sender.Tie as tie
@@ -17,8 +17,8 @@ element-set-from-s : tie.Need-element-set-from-s
 element-set-from-s c = search rules
 
 returns : tie.Need-returns
-unfolding damagedSender
-returns c = rw (c.before.IsPlace-in.ensures, c.sender-in.ensures)
+unfolding damaged_sender
+returns c = rw (c.before.IsPlace-in.ensures, c.sender_in.ensures)
 
 pub with-sender-spec : {M : Type 1} → statement M
 with-sender-spec =

@@ -1,5 +1,5 @@
 -- Value by value. Assumes nothing.
-use Rattle.edges_fields.specs.Fields.{withSettings}
+use Rattle.edges_fields.specs.Fields.{with_settings}
 use borrow.Author.Rules.{rules}
 use Rattle.edges_fields.proofs.with_settings.Statement.{statement}
 use Rattle.edges_fields.proofs.with_settings.Tie as tie
@@ -23,7 +23,7 @@ groups-in-requires : tie.Need-groups-in-requires
 groups-in-requires c κs = search rules
 
 returns : tie.Need-returns
-unfolding withSettings
+unfolding with_settings
 returns c = rw (c.before.before.before.before.before.read1.ensures, c.before.before.before.before.read2.ensures, c.before.before.before.read4.ensures, c.before.before.read8.ensures, c.before.read12.ensures, c.groups-in.ensures)
 
 pub with-settings-spec : {M : Type 1} → statement M

@@ -4,13 +4,13 @@ use Prim.Native.Nat.{◌≤◌, ◌<◌, ◌+◌, ◌-◌}
 use mathlib.Core.Path.{◌≡◌, refl, sym, ap, ◌∙◌}
 use native.Mathlib.Omega.{arith}
 use lib.ListN.{length, drop}
-use Rattle.edges_lines.specs.Sum.{sumFrom}
-use Rattle.edges_lines.specs.SumLaws.{sum_below, sum-next, sum-end}
+use Rattle.edges_lines.specs.Sum.{sum_from}
+use Rattle.edges_lines.specs.SumLaws.{sum_below, sum_next, sum_end}
 use Rattle.edges_lines.proofs.sum_from.Statement.{statement}
 use Rattle.edges_lines.proofs.sum_from.Tie as tie
 
 abbrev invariant-loop : tie.invariant-loop
-invariant-loop start octets s₀ i₀ s i = (i ≤ length octets) × (s < 4294967296) × (sumFrom s (drop i octets) ≡ sumFrom start octets)
+invariant-loop start octets s₀ i₀ s i = (i ≤ length octets) × (s < 4294967296) × (sum_from s (drop i octets) ≡ sum_from start octets)
 
 abbrev decreases-loop : tie.decreases-loop
 decreases-loop start octets s₀ i₀ s i = length octets - i
@@ -35,10 +35,10 @@ loop-again c =
     let octets = c.before.before.before.before.before.args.octets.now in
     let loop = c.before.before.before.loop in
     let taken = c.with-octet.ensures in
-    (omega arith, rw taken (sum_below _ _), ap (λ x. sumFrom x (drop (loop.i + 1) octets)) taken ∙ sum-next octets loop.i loop.s c.before.before.loop-test.true loop.invariant.1 ∙ loop.invariant.2)
+    (omega arith, rw taken (sum_below _ _), ap (λ x. sum_from x (drop (loop.i + 1) octets)) taken ∙ sum_next octets loop.i loop.s c.before.before.loop-test.true loop.invariant.1 ∙ loop.invariant.2)
 
 returns : tie.Need-returns invariant-loop decreases-loop
-returns c = sym (sum-end _ c.before.loop.i c.before.loop.s c.loop-test.false) ∙ c.before.loop.invariant.2
+returns c = sym (sum_end _ c.before.loop.i c.before.loop.s c.loop-test.false) ∙ c.before.loop.invariant.2
 
 pub sum-from-spec : {M : Type 1} → statement M
 sum-from-spec =

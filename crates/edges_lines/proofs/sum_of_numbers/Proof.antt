@@ -5,13 +5,13 @@ use mathlib.Core.Path.{◌≡◌, refl, sym, ap, ◌∙◌}
 use native.Mathlib.Omega.{arith}
 use lib.ListN.{length, drop, get_or, replicate}
 use Rattle.octets.specs.Number.{octets}
-use Rattle.edges_lines.specs.Sum.{sumFrom, sum_of, inOctets}
-use Rattle.edges_lines.specs.SumLaws.{sum-from-below, numbers-next, numbers-end, four-octets}
+use Rattle.edges_lines.specs.Sum.{sum_from, sum_of, in_octets}
+use Rattle.edges_lines.specs.SumLaws.{sum_from_below, numbers_next, numbers_end, four_octets}
 use Rattle.edges_lines.proofs.sum_of_numbers.Statement.{statement}
 use Rattle.edges_lines.proofs.sum_of_numbers.Tie as tie
 
 abbrev invariant-loop : tie.invariant-loop
-invariant-loop numbers s₀ i₀ s i = (i ≤ length numbers) × (s < 4294967296) × (sumFrom s (inOctets (drop i numbers)) ≡ sum_of (inOctets numbers))
+invariant-loop numbers s₀ i₀ s i = (i ≤ length numbers) × (s < 4294967296) × (sum_from s (in_octets (drop i numbers)) ≡ sum_of (in_octets numbers))
 
 abbrev decreases-loop : tie.decreases-loop
 decreases-loop numbers s₀ i₀ s i = length numbers - i
@@ -48,15 +48,15 @@ loop-again c =
     let laid = c.before.before.before in
     let loop = laid.before.before.before.before.loop in
     let numbers = laid.before.before.before.before.before.before.args.numbers.now in
-    let taken : c.sum-from.result ≡ sumFrom loop.s (octets 4 (get_or numbers loop.i 0))
-    = c.sum-from.ensures ∙ ap (sumFrom loop.s) (laid.write4.ensures ∙ four-octets (replicate 4 0) _ refl) in (
+    let taken : c.sum-from.result ≡ sum_from loop.s (octets 4 (get_or numbers loop.i 0))
+    = c.sum-from.ensures ∙ ap (sum_from loop.s) (laid.write4.ensures ∙ four_octets (replicate 4 0) _ refl) in (
       omega arith,
-      rw taken (sum-from-below _ loop.s loop.invariant.1),
-      ap (λ x. sumFrom x (inOctets (drop (loop.i + 1) numbers))) taken ∙ numbers-next numbers loop.i loop.s laid.before.before.before.loop-test.true ∙ loop.invariant.2,
+      rw taken (sum_from_below _ loop.s loop.invariant.1),
+      ap (λ x. sum_from x (in_octets (drop (loop.i + 1) numbers))) taken ∙ numbers_next numbers loop.i loop.s laid.before.before.before.loop-test.true ∙ loop.invariant.2,
     )
 
 returns : tie.Need-returns invariant-loop decreases-loop
-returns c = sym (numbers-end _ c.before.loop.i c.before.loop.s c.loop-test.false) ∙ c.before.loop.invariant.2
+returns c = sym (numbers_end _ c.before.loop.i c.before.loop.s c.loop-test.false) ∙ c.before.loop.invariant.2
 
 pub sum-of-numbers-spec : {M : Type 1} → statement M
 sum-of-numbers-spec =

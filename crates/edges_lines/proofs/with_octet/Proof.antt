@@ -1,7 +1,7 @@
 -- The remainder of a sum and an octet. Assumes nothing.
 use borrow.Author.Rules.{rules}
 use mathlib.Core.Path.{refl}
-use Rattle.edges_lines.specs.Sum.{withOctet}
+use Rattle.edges_lines.specs.Sum.{with_octet}
 use Rattle.edges_lines.proofs.with_octet.Statement.{statement}
 use Rattle.edges_lines.proofs.with_octet.Tie as tie
 
@@ -12,7 +12,7 @@ add-result : tie.Need-overflow-add-result
 add-result c = search rules
 
 returns : tie.Need-returns
-unfolding withOctet
+unfolding with_octet
 returns c = refl
 
 pub with-octet-spec : {M : Type 1} → statement M

@@ -1,7 +1,7 @@
 -- The call, and its line. Assumes nothing.
 use borrow.Author.Rules.{rules}
 use Rattle.multicast.specs.Lent.{tables}
-use Rattle.edges_multicast.specs.FieldsLaws.{left-cast}
+use Rattle.edges_multicast.specs.FieldsLaws.{left_cast}
 use Rattle.edges_multicast.proofs.lent_call.Statement.{statement}
 use Rattle.edges_multicast.proofs.lent_call.Tie as tie
 
@@ -28,7 +28,7 @@ returns c =
     let called = c.before.before.before.before.before.before.before in
     let packet = called.before.before.before.before in
     let a = packet.before.before.before.before.args in
-    left-cast a.w (tables a.versions.now a.numbers.now) a.contents.now _ _ called.before.read1.ensures packet.from.ensures _ _ called.multicast.ensures.1
+    left_cast a.w (tables a.versions.now a.numbers.now) a.contents.now _ _ called.before.read1.ensures packet.from.ensures _ _ called.multicast.ensures.1
 
 pub lent-call-spec : {M : Type 1} → statement M
 lent-call-spec =

@@ -3,7 +3,7 @@ use borrow.Author.Rules.{rules}
 use mathlib.Core.Path.{sym}
 use native.Mathlib.Omega.{arith}
 use lib.Seq.{length-take-le}
-use Rattle.edges_multicast.specs.Fields.{castIn}
+use Rattle.edges_multicast.specs.Fields.{cast_in}
 use Rattle.edges_multicast.proofs.multicast_call.Statement.{statement}
 use Rattle.edges_multicast.proofs.multicast_call.Tie as tie
 
@@ -53,7 +53,7 @@ same-length-2 : tie.Need-same-length-2
 same-length-2 c = search rules
 
 returns : tie.Need-returns
-unfolding castIn
+unfolding cast_in
 returns c =
     let called = c.before.before.before.before in
     let second = called.before.before.before in

@@ -1,11 +1,11 @@
 -- Each test is of the field that the definition names. Assumes nothing.
-use Rattle.header.specs.Head.{isFixed}
+use Rattle.header.specs.Head.{is_fixed}
 use Rattle.header.proofs.Asks.{nothing}
 use Rattle.header.proofs.is_fixed.Statement.{statement}
 use Rattle.header.proofs.is_fixed.Tie as tie
 
 returns : tie.Need-returns
-unfolding isFixed
+unfolding is_fixed
 returns c =
     let gtid = c.before.before in
     let inquiry = gtid.before.before in

@@ -16,8 +16,8 @@ returns c =
     let field = node.before.before.before.before in
     let domain = field.before.before.before.before in
     let ml = domain.before.before.before.before in
-    let h-type = ml.before.before.before.before in
-    rw (da.write43.ensures, node.write2.ensures, field.write12.ensures, domain.write1.ensures, ml.write42.ensures, h-type.write4.ensures)
+    let h_type_lem = ml.before.before.before.before in
+    rw (da.write43.ensures, node.write2.ensures, field.write12.ensures, domain.write1.ensures, ml.write42.ensures, h_type_lem.write4.ensures)
 
 pub write-front-spec : {M : Type 1} → statement M
 write-front-spec = tie.close (tie.spec nothing nothing nothing nothing nothing nothing same_length returns)

@@ -21,11 +21,11 @@ returns c =
     let gtid = c.before.before in
     let ver = gtid.before.before.before.before.before in
     let tcd = ver.before.before.before.before in
-    let inq-id = tcd.before.before.before.before in
-    let m-ctl = inq-id.before.before.before.before.before in
+    let inq_id_lem = tcd.before.before.before.before in
+    let m-ctl = inq_id_lem.before.before.before.before.before in
     let seq = m-ctl.before.before.before.before in
     let v-seq = seq.before.before.before.before in
-    rw (gtid.lay2.ensures, ver.write22.ensures, tcd.write2.ensures, inq-id.lay.ensures, m-ctl.write43.ensures, seq.write42.ensures, v-seq.write4.ensures)
+    rw (gtid.lay2.ensures, ver.write22.ensures, tcd.write2.ensures, inq_id_lem.lay.ensures, m-ctl.write43.ensures, seq.write42.ensures, v-seq.write4.ensures)
 
 pub write-middle-spec : {M : Type 1} → statement M
 write-middle-spec =

@@ -6,7 +6,7 @@ use Rattle.octets.specs.Run.{laid}
 use Rattle.header.specs.declared.Head.{Head}
 use Rattle.header.specs.Layout.{Slot, slots_of}
 use Rattle.header.specs.Places.{place}
-use Rattle.header.specs.Places.Field.{hType, ml, domain, dataField, node, da, vSeq, seq, mCtl, inqId, tcd, ver, gtid, mode, pver, pri, cbn, tbn, bsize, fui}
+use Rattle.header.specs.Places.Field.{h_type, ml, domain, data_field, node, da, v_seq, seq, m_ctl, inq_id, tcd, ver, gtid, mode, pver, pri, cbn, tbn, bsize, fui}
 use Rattle.header.specs.Head.{value}
 
 -- The slots' numbers written one after the other.
@@ -15,11 +15,11 @@ fill [] s = s
 fill (r ∷ rs) s = fill rs (laid s r.start (octets r.size r.value))
 
 -- Table 7's rows in three parts.
-abbrev pub frontSlots : Head → List Slot
-frontSlots h = slots_of place (value h) (hType ∷ ml ∷ domain ∷ dataField ∷ node ∷ da ∷ [])
+abbrev pub front_slots : Head → List Slot
+front_slots h = slots_of place (value h) (h_type ∷ ml ∷ domain ∷ data_field ∷ node ∷ da ∷ [])
 
-abbrev pub middleSlots : Head → List Slot
-middleSlots h = slots_of place (value h) (vSeq ∷ seq ∷ mCtl ∷ inqId ∷ tcd ∷ ver ∷ gtid ∷ [])
+abbrev pub middle_slots : Head → List Slot
+middle_slots h = slots_of place (value h) (v_seq ∷ seq ∷ m_ctl ∷ inq_id ∷ tcd ∷ ver ∷ gtid ∷ [])
 
-abbrev pub backSlots : Head → List Slot
-backSlots h = slots_of place (value h) (mode ∷ pver ∷ pri ∷ cbn ∷ tbn ∷ bsize ∷ fui ∷ [])
+abbrev pub back_slots : Head → List Slot
+back_slots h = slots_of place (value h) (mode ∷ pver ∷ pri ∷ cbn ∷ tbn ∷ bsize ∷ fui ∷ [])

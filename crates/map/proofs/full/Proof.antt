@@ -1,6 +1,6 @@
 -- All ones, shifted down to t of them. Assumes nothing.
 use mathlib.Core.Path.{◌≡◌}
-use Rattle.map.specs.MapLaws.{code-full}
+use Rattle.map.specs.MapLaws.{code_full}
 use borrow.Author.Rules.{rules}
 use Rattle.map.proofs.full.Statement.{statement}
 use Rattle.map.proofs.full.Tie as tie
@@ -18,7 +18,7 @@ shr-result : tie.Need-overflow-shr-result
 shr-result c = search rules
 
 returns-2 : tie.Need-returns-2
-returns-2 c = code-full c.before.args.t c.before.requires
+returns-2 c = code_full c.before.args.t c.before.requires
 
 pub full-spec : {M : Type 1} → statement M
 full-spec = tie.close (tie.spec returns sub-result cast-result shr-result returns-2)

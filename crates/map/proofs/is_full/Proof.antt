@@ -2,8 +2,8 @@
 use mathlib.Core.Path.{◌≡◌, sym, ◌∙◌}
 use native.Mathlib.Omega.{arith}
 use borrow.Author.Tests.{ne_eqb}
-use Rattle.map.specs.Map.{fullMap}
-use Rattle.map.specs.MapLaws.{full-above, full_is}
+use Rattle.map.specs.Map.{full_map}
+use Rattle.map.specs.MapLaws.{full_above, full_is}
 use borrow.Author.Rules.{rules}
 use Rattle.map.proofs.is_full.Statement.{statement}
 use Rattle.map.proofs.is_full.Tie as tie
@@ -11,8 +11,8 @@ use Rattle.map.proofs.is_full.Tie as tie
 returns : tie.Need-returns
 returns c =
     let a = c.before.args in
-    let above = full-above a.map a.t (omega arith) c.if1.true in
-    sym (full_is a.map a.t ∙ ne_eqb a.map (fullMap a.t) (λ (e : a.map ≡ fullMap a.t). omega arith))
+    let above = full_above a.map a.t (omega arith) c.if1.true in
+    sym (full_is a.map a.t ∙ ne_eqb a.map (full_map a.t) (λ (e : a.map ≡ full_map a.t). omega arith))
 
 full-requires : tie.Need-full-requires
 full-requires c κs = search rules

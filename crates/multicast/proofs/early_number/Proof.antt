@@ -4,14 +4,14 @@ use mathlib.Core.Path.{◌≡◌, sym, ap, ◌∙◌}
 use mathlib.Core.Bool.{Bool, not}
 use borrow.Author.Tests.{le-leb, lt-leb}
 use Rattle.rules.specs.calls.First.{first}
-use Rattle.rules.specs.calls.Multicast.{Tables, tablesWithin}
+use Rattle.rules.specs.calls.Multicast.{Tables, tables_within}
 use borrow.Author.Rules.{rules}
 use Rattle.multicast.proofs.early_number.Statement.{statement}
 use Rattle.multicast.proofs.early_number.Tie as tie
 
 -- The tables are judged by as many entries as they should have.
-judged : (n k : ℕ) (t : Tables) (within b : Bool) → k ≡ n → within ≡ tablesWithin k t → not within ≡ b → not (tablesWithin n t) ≡ b
-judged n k t within b e f g = ap (λ (j : ℕ). not (tablesWithin j t)) (sym e) ∙ ap not (sym f) ∙ g
+judged : (n k : ℕ) (t : Tables) (within b : Bool) → k ≡ n → within ≡ tables_within k t → not within ≡ b → not (tables_within n t) ≡ b
+judged n k t within b e f g = ap (λ (j : ℕ). not (tables_within j t)) (sym e) ∙ ap not (sym f) ∙ g
 
 returns : tie.Need-returns
 unfolding first
@@ -27,7 +27,7 @@ returns-2 : tie.Need-returns-2
 unfolding first
 returns-2 c =
     let asked = c.before in
-    simp (asked.before.before.if1.false, judged _ _ _ _ _ asked.before.entries.ensures asked.tables-within.ensures c.if2.true)
+    simp (asked.before.before.if1.false, judged _ _ _ _ _ asked.before.entries.ensures asked.tables_within_lem.ensures c.if2.true)
 
 length-outside-requires : tie.Need-length-outside-requires
 length-outside-requires c κs = search rules
@@ -39,7 +39,7 @@ returns-3 c =
     let asked = second.before in
     simp (
       asked.before.before.if1.false,
-      judged _ _ _ _ _ asked.before.entries.ensures asked.tables-within.ensures second.if2.false,
+      judged _ _ _ _ _ asked.before.entries.ensures asked.tables_within_lem.ensures second.if2.false,
       sym c.before.length-outside.ensures ∙ c.if3.true,
     )
 
@@ -54,9 +54,9 @@ returns-4 c =
     let asked = second.before in
     simp (
       asked.before.before.if1.false,
-      judged _ _ _ _ _ asked.before.entries.ensures asked.tables-within.ensures second.if2.false,
+      judged _ _ _ _ _ asked.before.entries.ensures asked.tables_within_lem.ensures second.if2.false,
       sym third.before.length-outside.ensures ∙ third.if3.false,
-      ap not (sym c.before.head-within.ensures) ∙ c.if4.true,
+      ap not (sym c.before.head_within.ensures) ∙ c.if4.true,
     )
 
 returns-5 : tie.Need-returns-5
@@ -68,9 +68,9 @@ returns-5 c =
     let asked = second.before in
     simp (
       asked.before.before.if1.false,
-      judged _ _ _ _ _ asked.before.entries.ensures asked.tables-within.ensures second.if2.false,
+      judged _ _ _ _ _ asked.before.entries.ensures asked.tables_within_lem.ensures second.if2.false,
       sym third.before.length-outside.ensures ∙ third.if3.false,
-      ap not (sym fourth.before.head-within.ensures) ∙ fourth.if4.false,
+      ap not (sym fourth.before.head_within_lem.ensures) ∙ fourth.if4.false,
       le-leb _ _ c.if5.true,
     )
 
@@ -87,9 +87,9 @@ returns-6 c =
     let asked = second.before in
     c.group-number.ensures ∙ simp (
       asked.before.before.if1.false,
-      judged _ _ _ _ _ asked.before.entries.ensures asked.tables-within.ensures second.if2.false,
+      judged _ _ _ _ _ asked.before.entries.ensures asked.tables_within_lem.ensures second.if2.false,
       sym third.before.length-outside.ensures ∙ third.if3.false,
-      ap not (sym fourth.before.head-within.ensures) ∙ fourth.if4.false,
+      ap not (sym fourth.before.head_within_lem.ensures) ∙ fourth.if4.false,
       lt-leb _ _ fifth.if5.false,
     )
 

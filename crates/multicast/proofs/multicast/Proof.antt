@@ -1,7 +1,7 @@
 -- The header is read, the state looked at once, and the packet taken. Assumes nothing.
 use mathlib.Core.Path.{ap, ◌∙◌}
-use Rattle.state.specs.Table.{lookAt}
-use Rattle.multicast.specs.LentLaws.{call-left}
+use Rattle.state.specs.Table.{look_at}
+use Rattle.multicast.specs.LentLaws.{call_left}
 use borrow.Author.Rules.{rules}
 use Rattle.multicast.proofs.multicast.Statement.{statement}
 use Rattle.multicast.proofs.multicast.Tie as tie
@@ -33,7 +33,7 @@ returns c =
     let looked = took.before.before.before.before in
     let read = looked.before.before in
     let a = read.before.before.before.before.args in
-    call-left a.state _ _ _ _ _ read.read_head.ensures (looked.look.ensures ∙ ap (lookAt a.state) looked.before.of.ensures) _ _ _ _ took.take.ensures c.handed.ensures
+    call_left a.state _ _ _ _ _ read.read_head.ensures (looked.look.ensures ∙ ap (look_at a.state) looked.before.of.ensures) _ _ _ _ took.take.ensures c.handed.ensures
 
 pub multicast-spec : {M : Type 1} → statement M
 multicast-spec =

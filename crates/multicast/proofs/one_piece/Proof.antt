@@ -1,15 +1,15 @@
 -- The test is that of the definition. Assumes nothing.
 use mathlib.Core.Path.{refl}
 use borrow.Author.Rules.{rules}
-use Rattle.rules.specs.calls.Multicast.{onePiece}
-use Rattle.multicast.proofs.one_piece.Statement.{statement}
-use Rattle.multicast.proofs.one_piece.Tie as tie
+use Rattle.rules.specs.calls.Multicast.{one_piece}
+use Rattle.multicast.proofs.one_piece_lem.Statement.{statement}
+use Rattle.multicast.proofs.one_piece_lem.Tie as tie
 
 cast-result : tie.Need-overflow-cast-result
 cast-result c = search rules
 
 returns : tie.Need-returns
-unfolding onePiece
+unfolding one_piece
 returns c = refl
 
 pub one-piece-spec : {M : Type 1} → statement M

@@ -1,8 +1,8 @@
 -- Each return is the number of the first row that applies, and where none does the verdict. Assumes nothing.
 use mathlib.Core.Path.{sym, ap, ◌∙◌}
 use borrow.Author.Tests.{not-true, not-false}
-use Rattle.ring.specs.Check.{isRepeat}
-use Rattle.multicast.specs.LentLaws.{early-refused, late-mode, late-cut, late-repeat, late-none}
+use Rattle.ring.specs.Check.{is_repeat}
+use Rattle.multicast.specs.LentLaws.{early_refused, late_mode, late_cut, late_repeat, late_none}
 use borrow.Author.Rules.{rules}
 use Rattle.multicast.proofs.outcome_of.Statement.{statement}
 use Rattle.multicast.proofs.outcome_of.Tie as tie
@@ -14,7 +14,7 @@ refused-requires : tie.Need-refused-requires
 refused-requires c κs = search rules
 
 returns : tie.Need-returns
-returns c = c.refused.ensures ∙ early-refused _ _ _ _ _ _ c.before.before.early-number.ensures c.before.if1.true
+returns c = c.refused.ensures ∙ early_refused _ _ _ _ _ _ c.before.before.early-number.ensures c.before.if1.true
 
 refused-requires-2 : tie.Need-refused-requires-2
 refused-requires-2 c κs = search rules
@@ -22,7 +22,7 @@ refused-requires-2 c κs = search rules
 returns-2 : tie.Need-returns-2
 returns-2 c =
     let early = c.before.before.before.before.before.before in
-    c.refused2.ensures ∙ late-mode _ _ _ _ _ _ early.before.early-number.ensures early.if1.false c.before.if2.true
+    c.refused2.ensures ∙ late_mode _ _ _ _ _ _ early.before.early-number.ensures early.if1.false c.before.if2.true
 
 one-piece-requires : tie.Need-one-piece-requires
 one-piece-requires c κs = search rules
@@ -36,7 +36,7 @@ returns-3 c =
     let mode = cut.before.before in
     let early = mode.before.before.before.before.before in
     c.refused3.ensures
-    ∙ late-cut _ _ _ _ _ _ early.before.early-number.ensures early.if1.false mode.if2.false (sym cut.before.one_piece.ensures ∙ not-true _ cut.if3.true)
+    ∙ late_cut _ _ _ _ _ _ early.before.early-number.ensures early.if1.false mode.if2.false (sym cut.before.one_piece_lem.ensures ∙ not-true _ cut.if3.true)
 
 verdict-in-requires : tie.Need-verdict-in-requires
 verdict-in-requires c κs = search rules
@@ -54,8 +54,8 @@ returns-4 c =
     let cut = judged.before in
     let mode = cut.before.before in
     let early = mode.before.before.before.before.before in
-    rw (c.age.ensures, judged.verdict-in.ensures) (late-repeat _ _ _ _ _ _ early.before.early-number.ensures early.if1.false mode.if2.false (sym cut.before.one_piece.ensures ∙ not-false _ cut.if3.false)
-    (sym (ap isRepeat judged.verdict-in.ensures) ∙ sym repeat.before.is-repeat.ensures ∙ repeat.if4.true))
+    rw (c.age.ensures, judged.verdict-in.ensures) (late_repeat _ _ _ _ _ _ early.before.early-number.ensures early.if1.false mode.if2.false (sym cut.before.one_piece_lem.ensures ∙ not-false _ cut.if3.false)
+    (sym (ap is_repeat judged.verdict-in.ensures) ∙ sym repeat.before.is-repeat.ensures ∙ repeat.if4.true))
 
 returns-5 : tie.Need-returns-5
 returns-5 c =
@@ -63,8 +63,8 @@ returns-5 c =
     let cut = judged.before in
     let mode = cut.before.before in
     let early = mode.before.before.before.before.before in
-    rw judged.verdict-in.ensures (late-none _ _ _ _ _ _ early.before.early-number.ensures early.if1.false mode.if2.false (sym cut.before.one_piece.ensures ∙ not-false _ cut.if3.false)
-    (sym (ap isRepeat judged.verdict-in.ensures) ∙ sym c.before.is-repeat.ensures ∙ c.if4.false))
+    rw judged.verdict-in.ensures (late_none _ _ _ _ _ _ early.before.early-number.ensures early.if1.false mode.if2.false (sym cut.before.one_piece_lem.ensures ∙ not-false _ cut.if3.false)
+    (sym (ap is_repeat judged.verdict-in.ensures) ∙ sym c.before.is-repeat.ensures ∙ c.if4.false))
 
 pub outcome-of-spec : {M : Type 1} → statement M
 outcome-of-spec =

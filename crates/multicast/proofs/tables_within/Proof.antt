@@ -4,28 +4,28 @@ use mathlib.Core.Path.{◌≡◌, refl, sym}
 use native.Mathlib.Numerals.{add-one}
 use native.Mathlib.Omega.{arith}
 use borrow.Author.Tests.{eq-eqb}
-use Rattle.rules.specs.calls.Multicast.{eachEntry, tablesWithin}
-use Rattle.rules.specs.calls.MulticastLaws.{entries-more}
+use Rattle.rules.specs.calls.Multicast.{each_entry, tables_within}
+use Rattle.rules.specs.calls.MulticastLaws.{entries_more}
 use Rattle.multicast.specs.Lent.{tables}
-use Rattle.multicast.specs.LentLaws.{versions-wrong, numbers-wrong}
+use Rattle.multicast.specs.LentLaws.{versions_wrong, numbers_wrong}
 use borrow.Author.Rules.{rules}
 use Rattle.multicast.proofs.tables_within.Statement.{statement}
 use Rattle.multicast.proofs.tables_within.Tie as tie
 
 abbrev invariant-loop : tie.invariant-loop
-invariant-loop versions numbers entries within₀ i₀ within i = (i ≤ entries) × (within ≡ eachEntry (tables versions numbers) i)
+invariant-loop versions numbers entries within₀ i₀ within i = (i ≤ entries) × (within ≡ each_entry (tables versions numbers) i)
 
 abbrev decreases-loop : tie.decreases-loop
 decreases-loop versions numbers entries within₀ i₀ within i = entries - i
 
 returns : tie.Need-returns invariant-loop decreases-loop
-returns c = versions-wrong _ _ c.if1.true
+returns c = versions_wrong _ _ c.if1.true
 
 returns-2 : tie.Need-returns-2 invariant-loop decreases-loop
-returns-2 c = numbers-wrong _ _ c.if2.true
+returns-2 c = numbers_wrong _ _ c.if2.true
 
 loop-holds : tie.Need-loop-init invariant-loop decreases-loop
-unfolding eachEntry
+unfolding each_entry
 loop-holds c = (omega arith, refl)
 
 mul-t10 : tie.Need-overflow-mul-t10 invariant-loop decreases-loop
@@ -53,10 +53,10 @@ loop-again : tie.Need-loop-preserved invariant-loop decreases-loop
 loop-again c =
     let at = c.before.before.before.before in
     let a = at.before.before.before.before.before.args in
-    (omega arith, rw (add-one at.loop.i) (entries-more (tables a.versions.now a.numbers.now) at.loop.i _ _ at.loop.invariant.1 c.within.ensures))
+    (omega arith, rw (add-one at.loop.i) (entries_more (tables a.versions.now a.numbers.now) at.loop.i _ _ at.loop.invariant.1 c.within.ensures))
 
 returns-3 : tie.Need-returns-3 invariant-loop decreases-loop
-unfolding tablesWithin
+unfolding tables_within
 returns-3 c =
     let l = c.before.loop in
     let a = c.before.before.before.before.before.before.args in

@@ -1,5 +1,5 @@
 -- The entry is written where the delivery is kept, and otherwise nothing. Assumes nothing.
-use Rattle.multicast.specs.LentLaws.{left-written, left-same}
+use Rattle.multicast.specs.LentLaws.{left_written, left_same}
 use borrow.Author.Rules.{rules}
 use Rattle.multicast.proofs.take.Statement.{statement}
 use Rattle.multicast.proofs.take.Tie as tie
@@ -32,7 +32,7 @@ returns c =
     let place = first.before.before in
     let kept = place.before.before in
     let outcome = kept.before.before in
-    left-written _ _ _ _ _ _ outcome.outcome-of.ensures _ kept.before.is-kept.ensures kept.if1.true _ place.place-for.ensures _ _ first.put.ensures second.put2.ensures
+    left_written _ _ _ _ _ _ outcome.outcome_of.ensures _ kept.before.is-kept.ensures kept.if1.true _ place.place-for.ensures _ _ first.put.ensures second.put2.ensures
 
 same-length-3 : tie.Need-same-length-3
 same-length-3 c = search rules
@@ -41,7 +41,7 @@ same-length-4 : tie.Need-same-length-4
 same-length-4 c = search rules
 
 returns-2 : tie.Need-returns-2
-returns-2 c = left-same _ _ _ _ _ _ c.before.before.outcome-of.ensures _ c.before.is-kept.ensures c.if1.false
+returns-2 c = left_same _ _ _ _ _ _ c.before.before.outcome_of.ensures _ c.before.is-kept.ensures c.if1.false
 
 pub take_spec : {M : Type 1} → statement M
 take_spec =

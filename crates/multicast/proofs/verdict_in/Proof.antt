@@ -19,7 +19,7 @@ returns : tie.Need-returns
 returns c =
     let two = c.before in
     let one = two.before in
-    rw (c.number-check.ensures, two.at2.ensures, one.at.ensures, one.before.before.place-for.ensures)
+    rw (c.number_check.ensures, two.at2.ensures, one.at.ensures, one.before.before.place-for.ensures)
 
 pub verdict-in-spec : {M : Type 1} → statement M
 verdict-in-spec =

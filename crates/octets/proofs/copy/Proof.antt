@@ -5,7 +5,7 @@ use native.Mathlib.Omega.{arith}
 use native.Mathlib.Numerals.{add-one}
 use lib.ListN.{length, length-set}
 use lib.Seq.{paste, paste-zero, paste-suc}
-use Rattle.octets.specs.RunLaws.{laid-paste}
+use Rattle.octets.specs.RunLaws.{laid_paste}
 use Rattle.octets.proofs.copy.Statement.{statement}
 use Rattle.octets.proofs.copy.Tie as tie
 
@@ -50,7 +50,7 @@ returns c =
     let l = c.before.loop in
     let a = c.before.before.args in
     let e : l.i ≡ length a.run.now = omega arith in
-    rw e at l.invariant.1 ∙ laid-paste a.s.now a.at a.run.now c.before.before.requires
+    rw e at l.invariant.1 ∙ laid_paste a.s.now a.at a.run.now c.before.before.requires
 
 pub copy_spec : {M : Type 1} → statement M
 copy_spec =

@@ -2,7 +2,7 @@
 use mathlib.Core.Path.{sym, ◌∙◌}
 use borrow.Author.Rules.{rules}
 use borrow.Author.Tests.{leb-true}
-use Rattle.octets.specs.RunLaws.{laid-unfit}
+use Rattle.octets.specs.RunLaws.{laid_unfit}
 use Rattle.octets.proofs.lay_once.Statement.{statement}
 use Rattle.octets.proofs.lay_once.Tie as tie
 
@@ -10,7 +10,7 @@ ends-within-requires : tie.Need-ends-within-requires
 ends-within-requires c κs = search rules
 
 copy-requires : tie.Need-copy-requires
-copy-requires c κs = let room = c.before in leb-true _ _ (sym room.before.ends-within.ensures ∙ room.if1.true)
+copy-requires c κs = let room = c.before in leb-true _ _ (sym room.before.ends_within.ensures ∙ room.if1.true)
 
 same_length : tie.Need-same-length
 same_length c = search rules
@@ -19,7 +19,7 @@ returns : tie.Need-returns
 returns c = search rules
 
 returns-2 : tie.Need-returns-2
-returns-2 c = sym (laid-unfit _ _ _ (sym c.before.ends-within.ensures ∙ c.if1.false))
+returns-2 c = sym (laid_unfit _ _ _ (sym c.before.ends_within.ensures ∙ c.if1.false))
 
 pub lay-once-spec : {M : Type 1} → statement M
 lay-once-spec = tie.close (tie.spec ends-within-requires copy-requires same_length returns returns-2)

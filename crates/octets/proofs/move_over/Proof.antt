@@ -3,7 +3,7 @@ use mathlib.Core.Path.{◌∙◌}
 use native.Mathlib.Omega.{arith}
 use borrow.Author.Rules.{rules}
 use lib.ListN.{length-take}
-use Rattle.octets.specs.RunLaws.{laid-first}
+use Rattle.octets.specs.RunLaws.{laid_first}
 use Rattle.octets.proofs.move_over.Statement.{statement}
 use Rattle.octets.proofs.move_over.Tie as tie
 
@@ -32,7 +32,7 @@ returns : tie.Need-returns
 returns c =
     let put = c.before.before in
     let taken = put.before.before.before.before in
-    put.copy2.ensures ∙ rw (laid-first _ _ _ (omega arith) taken.copy.ensures)
+    put.copy2.ensures ∙ rw (laid_first _ _ _ (omega arith) taken.copy.ensures)
 
 same-length-2 : tie.Need-same-length-2
 same-length-2 c = search rules

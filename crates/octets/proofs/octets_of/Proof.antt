@@ -5,7 +5,7 @@ use Prim.Native.Nat.{suc, ◌-◌, ◌≤◌}
 use native.Mathlib.Omega.{arith}
 use lib.ListN.{length, drop, length-set}
 use Rattle.octets.specs.Number.{octets}
-use Rattle.octets.specs.NumberLaws.{octets-off}
+use Rattle.octets.specs.NumberLaws.{octets_off}
 use Rattle.octets.proofs.octets_of.Statement.{statement}
 use Rattle.octets.proofs.octets_of.Tie as tie
 
@@ -36,7 +36,7 @@ loop-again c =
     let e : l.i ≡ suc (l.i - 1) = omega arith in (
       omega arith,
       simp length-set l.invariant.1,
-      octets-off (l.i - 1) l.rest l.run (octets 8 c.before.before.args.x) (omega arith) (rw e at l.invariant.2),
+      octets_off (l.i - 1) l.rest l.run (octets 8 c.before.before.args.x) (omega arith) (rw e at l.invariant.2),
     )
 
 returns : tie.Need-returns invariant-loop decreases-loop

@@ -1,6 +1,6 @@
 -- The low octets of the number are laid down as a run. Assumes nothing.
 use mathlib.Core.Path.{◌∙◌}
-use Rattle.octets.specs.NumberLaws.{octets-low}
+use Rattle.octets.specs.NumberLaws.{octets_low}
 use borrow.Author.Rules.{rules}
 use Rattle.octets.proofs.write.Statement.{statement}
 use Rattle.octets.proofs.write.Tie as tie
@@ -29,7 +29,7 @@ returns c =
     let octets = part.before.before.before in
     let entry = octets.before.before in
     let a = entry.args in
-    c.before.before.lay.ensures ∙ rw (part.from.ensures, octets.octets-of.ensures, octets-low 8 a.w a.x entry.requires)
+    c.before.before.lay.ensures ∙ rw (part.from.ensures, octets.octets-of.ensures, octets_low 8 a.w a.x entry.requires)
 
 pub write_spec : {M : Type 1} → statement M
 write_spec = tie.close (tie.spec octets-of-requires slice-aggregate-from sub-from from-requires lay-requires same_length returns)

@@ -1,6 +1,6 @@
 -- The two calls are a course, since each meets its contract at what the one before left. Assumes nothing.
 use borrow.Author.Rules.{rules}
-use Rattle.promises.specs.CourseLaws.{two-messages}
+use Rattle.promises.specs.CourseLaws.{two_messages}
 use Rattle.promises.proofs.messages.Statement.{statement}
 use Rattle.promises.proofs.messages.Tie as tie
 
@@ -17,7 +17,7 @@ returns : tie.Need-returns
 returns c =
     let first = c.before.before.before.before.before.before.before.message.ensures.1.1 in
     let second = c.before.before.message2.ensures.1.1 in
-    two-messages first second
+    two_messages first second
 
 pub messages-spec : {M : Type 1} → statement M
 messages-spec = tie.close (tie.spec message-requires message-requires-2 same_length returns)

@@ -45,7 +45,7 @@ use denote.Triple.Walked.{Walks, ends_at, walked, walk_Meets}
 use denote.Exit.{yes}
 use Rattle.state.specs.declared.Receiver.{Receiver}
 use Rattle.answers.specs.declared.Answer.{Answer}
-use Rattle.rules.specs.calls.Message.{messageAnswer, messageStorage}
+use Rattle.rules.specs.calls.Message.{message_answer, message_storage}
 use Rattle.tally.specs.Tally.{counted}
 use Rattle.tally.specs.declared.Tally.{Tally}
 use Rattle.state.specs.contracts.Receiver as R
@@ -54,9 +54,9 @@ use Rattle.answers.specs.contracts.Answer as A
 use Rattle.answers.proofs.Answer.TheLaws as A'
 use Rattle.tally.specs.contracts.Tally as T
 use Rattle.tally.specs.contracts.message as call
-use Rattle.tally.proofs.message.Symbol as call-def
+use Rattle.tally.proofs.message.Symbol as call_def
 use Rattle.tally.proofs.message.Symbol.{name as #tally·message}
-use Rattle.tally.proofs.message.Met as call-thm
+use Rattle.tally.proofs.message.Met as call_thm
 use Rattle.promises.specs.Course.{world, TallyMeets}
 use Rattle.promises.specs.contracts.tallied.Key.{name as #promises·tallied}
 use Rattle.promises.specs.contracts.tallied as thin
@@ -79,14 +79,14 @@ stayed = (
 
 module _ {M : Type 1} {𝓤 : Ura M} (𝓛 : Logic 𝓤) where
   -- four clauses of a contract, which own nothing
-  four-facts : {φ ψ χ ω : Type 0} → φ → ψ → χ → ω → ent 𝓤 (emp 𝓤) (sep 𝓤 (fact 𝓤 φ) (sep 𝓤 (fact 𝓤 ψ) (sep 𝓤 (fact 𝓤 χ) (fact 𝓤 ω))))
-  four-facts {φ} {ψ} {χ} {ω} a b c d =
+  four_facts : {φ ψ χ ω : Type 0} → φ → ψ → χ → ω → ent 𝓤 (emp 𝓤) (sep 𝓤 (fact 𝓤 φ) (sep 𝓤 (fact 𝓤 ψ) (sep 𝓤 (fact 𝓤 χ) (fact 𝓤 ω))))
+  four_facts {φ} {ψ} {χ} {ω} a b c d =
       qed 𝓛 [] ∵ use0 𝓛 (raw (fact 𝓤 φ)) (fact_i 𝓤 φ (emp 𝓤) a) $ frame ! $ use0 𝓛 (raw (fact 𝓤 ψ)) (fact_i 𝓤 ψ (emp 𝓤) b) $ frame ! $
       use0 𝓛 (raw (fact 𝓤 χ)) (fact_i 𝓤 χ (emp 𝓤) c) $ frame ! $ use0 𝓛 (raw (fact 𝓤 ω)) (fact_i 𝓤 ω (emp 𝓤) d) $ done !
 
   -- what a store asks of a value
-  answer-fits : (r : Answer) (v : Val) → Is A.the_row r (v ∷ []) → Holds (has_ty A'.mir v) × WT v
-  answer-fits r v is = ((LL.lawful A.the_type A'.the_laws 𝓛).typed r (v ∷ []) is).0
+  answer_fits : (r : Answer) (v : Val) → Is A.the_row r (v ∷ []) → Holds (has_ty A'.mir v) × WT v
+  answer_fits r v is = ((LL.lawful A.the_type A'.the_laws 𝓛).typed r (v ∷ []) is).0
 
 -- ---- the contract of the function that is called
 
@@ -103,17 +103,17 @@ module _ {M : Type 1} {𝓤 : Ura M} (𝓛 : Logic 𝓤) (at_mem : Memory → SP
   abbrev lent : MutBor Tally × (Receiver × (MutBor (List ℕ) × (MutBor (List ℕ) × Unit {0})))
   lent = (record { ref_ptr = (b, o); ghost_name = γ; now = t }, (w, (x, (p, tt))))
 
-  abbrev w-val : Val
-  w-val = LL.val R.the_type R'.the_laws w
+  abbrev w_val : Val
+  w_val = LL.val R.the_type R'.the_laws w
 
-  abbrev x-val : Val
-  x-val = slice_val x.ref_ptr (length x.now)
+  abbrev x_val : Val
+  x_val = slice_val x.ref_ptr (length x.now)
 
-  abbrev p-val : Val
-  p-val = slice_val p.ref_ptr (length p.now)
+  abbrev p_val : Val
+  p_val = slice_val p.ref_ptr (length p.now)
 
   abbrev at : List Val × (List Val × (List Val × (List Val × Unit {0})))
-  at = (vptr b o ∷ [], (w-val ∷ [], (x-val ∷ [], (p-val ∷ [], tt))))
+  at = (vptr b o ∷ [], (w_val ∷ [], (x_val ∷ [], (p_val ∷ [], tt))))
 
   -- ---- the call: it takes the tokens, and all that was lent
 
@@ -123,33 +123,33 @@ module _ {M : Type 1} {𝓤 : Ura M} (𝓛 : Logic 𝓤) (at_mem : Memory → SP
   abbrev Lent : Fml
   Lent = owns (MutRef (named 0) κ T.the_row ∷ R.the_row ∷ MutSlice (named 1) κ₁ u8 ∷ ShrSlice (named 2) κ₂ u8 ∷ []) lent at
 
-  abbrev to-call : (Call 𝓛 at_mem run).Ghost
-  to-call = (((κ, (κ₁, (κ₂, tt))), (q, (q₁, (q₂, tt))), tt, lent, at), tt)
+  abbrev to_call : (Call 𝓛 at_mem run).Ghost
+  to_call = (((κ, (κ₁, (κ₂, tt))), (q, (q₁, (q₂, tt))), tt, lent, at), tt)
 
-  goes-call : ent 𝓤 (⋆ 𝓛 (Tokens ∷ ‵ Lent ∷ [])) ((Call 𝓛 at_mem run).pre to-call)
-  goes-call = qed 𝓛 (Tokens ∷ ‵ Lent ∷ []) ∵ join ! $ frame ! $ done !
+  goes_call : ent 𝓤 (⋆ 𝓛 (Tokens ∷ ‵ Lent ∷ [])) ((Call 𝓛 at_mem run).pre to_call)
+  goes_call = qed 𝓛 (Tokens ∷ ‵ Lent ∷ []) ∵ join ! $ frame ! $ done !
 
   -- ---- the exit: answer r at its machine value v, record s, storage zs, and the clauses of the contract
 
   abbrev Answered : Answer → Type 0
-  Answered r = r ≡ messageAnswer w (length x.now) p.now
+  Answered r = r ≡ message_answer w (length x.now) p.now
 
   abbrev Stored : List ℕ → Type 0
-  Stored zs = zs ≡ messageStorage w x.now p.now
+  Stored zs = zs ≡ message_storage w x.now p.now
 
   abbrev Tallied : Answer → Tally → Type 0
   Tallied r s = s ≡ counted t r.outcome
 
   -- the three equations are that it is a call of a course
   is_call : (r : Answer) (s : Tally) (zs : List ℕ) → Answered r → Stored zs → Tallied r s → TallyMeets t (world w x.now) p.now r s (world r.state zs)
-  is_call r s zs answered stored tallied = record { called = record { answered = answered; stored = stored; handed-on = refl }; tallied = tallied }
+  is_call r s zs answered stored tallied = record { called = record { answered = answered; stored = stored; handed_on = refl }; tallied = tallied }
 
   -- what the contract says
   abbrev Ensured : Answer → Tally → List ℕ → SProp 𝓤
   Ensured r s zs = (thin.clauses 𝓛 at_mem run (κ, (κ₁, (κ₂, tt))) lent).ensures tt r (at_exit thin.ended (κ, (κ₁, (κ₂, tt))) lent (s, (tt, (zs, (tt, tt)))))
 
   ensures : (r : Answer) (s : Tally) (zs : List ℕ) → Answered r → Stored zs → Tallied r s → ent 𝓤 (emp 𝓤) (Ensured r s zs)
-  ensures r s zs answered stored tallied = four-facts 𝓛 answered stored (tallied ∙ ap (λ (a : Answer). counted t a.outcome) answered) (is_call r s zs answered stored tallied)
+  ensures r s zs answered stored tallied = four_facts 𝓛 answered stored (tallied ∙ ap (λ (a : Answer). counted t a.outcome) answered) (is_call r s zs answered stored tallied)
 
   abbrev Post : Val → SProp 𝓤
   Post = (walk_of 𝓛 thin.ended stayed (thin.clauses 𝓛 at_mem run)).post (((κ, (κ₁, (κ₂, tt))), (q, (q₁, (q₂, tt))), tt, lent, at), tt)
@@ -173,12 +173,12 @@ module _ {M : Type 1} {𝓤 : Ura M} (𝓛 : Logic 𝓤) (at_mem : Memory → SP
   -- above its steps.
 
   module _ (C : Calls 𝓤 H) (Λ : Loops 𝓤 H) (fm : FmC 𝓤 H 𝓛.laws C) (called : Triple 𝓤 (C #tally·message) (Call 𝓛 at_mem run)) where
-    walk : Is R.the_row w (w-val ∷ []) → Room u8 (length x.now) → Room u8 (length p.now)
-        → ent 𝓤 (on_entry 𝓛 thin.signature (κ, (κ₁, (κ₂, tt))) (q, (q₁, (q₂, tt))) lent at) (WpFn 𝓤 H C Λ code.function (vptr b o ∷ w-val ∷ x-val ∷ p-val ∷ []) Post)
+    walk : Is R.the_row w (w_val ∷ []) → Room u8 (length x.now) → Room u8 (length p.now)
+        → ent 𝓤 (on_entry 𝓛 thin.signature (κ, (κ₁, (κ₂, tt))) (q, (q₁, (q₂, tt))) lent at) (WpFn 𝓤 H C Λ code.function (vptr b o ∷ w_val ∷ x_val ∷ p_val ∷ []) Post)
     walk is-w x-room p-room =
         qed 𝓛 (Tokens ∷ ‵ Lent ∷ []) ∵
         -- the eight locals are made, and the four parameters passed
-        enter ! C Λ code.function (vptr b o ∷ w-val ∷ x-val ∷ p-val ∷ []) _ $
+        enter ! C Λ code.function (vptr b o ∷ w_val ∷ x_val ∷ p_val ∷ []) _ $
         alloc1 ! (λ l₀. alloc1 ! (λ l₁. alloc1 ! (λ l₂. alloc1 ! (λ l₃. alloc1 ! (λ l₄. alloc1 ! (λ l₅. alloc1 ! (λ l₆. alloc1 ! (λ l₇. alloc0 ! $
         params1 ! $ pass1 ! (init ! 12 refl (tt, tt)) $ pass1 ! (init ! 10 refl ((LL.lawful R.the_type R'.the_laws 𝓛).typed w _ is-w).0) $
         pass1 ! (init ! 8 refl (tt, (tt, (record { fits = x-room.0 }, tt)))) $ pass1 ! (init ! 6 refl (tt, (tt, (record { fits = p-room.0 }, tt)))) $ pass0 ! $
@@ -190,8 +190,8 @@ module _ {M : Type 1} {𝓤 : Ura M} (𝓛 : Logic 𝓤) (at_mem : Memory → SP
         assigns ! (agg ! (and_then ! (load ! (from ! (stop !)) (look ! 2 refl)) (and_then ! (load ! (from ! (fld ! refl (stop !))) (look_in ! 8 (sub ! 1 refl (whole !)))) (no_more !))))
         (from ! (stop !)) (init ! 0 refl (tt, (tt, (record { fits = x-room.0 }, tt)))) $
         -- _0 = message(_5, _2, _7, _4). [what it asks; _7 at 1; …; _5 at 5; _4 at 7; …; _2 at 11; …]
-        move ! (16 ∷ 17 ∷ []) $ use2 𝓛 (raw ((Call 𝓛 at_mem run).pre to-call)) goes-call $
-        calls_at ! fm (Call 𝓛 at_mem run) called to-call
+        move ! (16 ∷ 17 ∷ []) $ use2 𝓛 (raw ((Call 𝓛 at_mem run).pre to_call)) goes_call $
+        calls_at ! fm (Call 𝓛 at_mem run) called to_call
         (and_then ! (load ! (from ! (stop !)) (look ! 5 refl)) (and_then ! (load ! (from ! (stop !)) (look ! 11 refl))
         (and_then ! (load ! (from ! (stop !)) (look ! 1 refl)) (and_then ! (load ! (from ! (stop !)) (look ! 7 refl)) (no_more !))))) (λ v.
         -- what it ensures of the answer r, of the last record and of the last storage
@@ -204,7 +204,7 @@ module _ {M : Type 1} {𝓤 : Ura M} (𝓛 : Logic 𝓤) (at_mem : Memory → SP
         -- [the last storage; the last record; the tokens and the answer's; _7; …]
         move ! (2 ∷ []) $ split ! $ move ! (1 ∷ []) $ peeks ! A.the_row (Is A.the_row) (shows 𝓛 A.the_row) r (v ∷ []) (λ is-v.
         -- [the answer's; the tokens; the last storage; the last record; _7 at 4; …; _0 at 18]
-        land ! (from ! (stop !)) (init ! 18 refl (answer-fits 𝓛 r v is-v)) $
+        land ! (from ! (stop !)) (init ! 18 refl (answer_fits 𝓛 r v is-v)) $
         -- return, and the locals are freed
         returns ! (look ! 18 refl) $ forget ! 4 refl $ forget ! 6 refl $ forget ! 8 refl $ forget ! 10 refl $ forget ! 12 refl $ forget ! 14 refl $ forget ! 16 refl $ forget ! 18 refl $
         move ! (18 ∷ 19 ∷ []) $ free1 ! $ move ! (16 ∷ 17 ∷ []) $ free1 ! $ move ! (14 ∷ 15 ∷ []) $ free1 ! $ move ! (12 ∷ 13 ∷ []) $ free1 ! $
@@ -249,4 +249,4 @@ tallied-spec 𝓤 𝓛 𝓜 𝓡 =
     entered 𝓤 𝓛.H (triple_of 𝓛 thin.signature (thin.spec 𝓛 𝓜.mem 𝓡.run))
     (tables 𝓤 𝓛.H 𝓜 𝓡 code.env).C (tables 𝓤 𝓛.H 𝓜 𝓡 code.env).Λ #promises·tallied code.function (code.unfolded 𝓤 𝓛.H 𝓜 𝓡)
     (meets 𝓛 𝓜.mem 𝓡.run (tables_of 𝓤 𝓛.H 𝓜 (tables 𝓤 𝓛.H 𝓜 𝓡 code.env))
-    (cited 𝓤 𝓛.H (Call 𝓛 𝓜.mem 𝓡.run) 𝓜 𝓡 code.env #tally·message call-def.routine code.calls-tally::message (call-thm.met 𝓤 𝓛 𝓜 𝓡)))
+    (cited 𝓤 𝓛.H (Call 𝓛 𝓜.mem 𝓡.run) 𝓜 𝓡 code.env #tally·message call_def.routine code.calls-tally::message (call_thm.met 𝓤 𝓛 𝓜 𝓡)))

@@ -2,8 +2,8 @@
 use mathlib.Core.Path.{◌∙◌}
 use borrow.Author.Tests.{eq-eqb, ne_eqb}
 use Rattle.ring.specs.Check.{check}
-use Rattle.ring.specs.CheckLaws.{rule4-by-distance}
-use Rattle.ring.specs.RingLaws.{remainder-bound}
+use Rattle.ring.specs.CheckLaws.{rule4_by_distance}
+use Rattle.ring.specs.RingLaws.{remainder_bound}
 use borrow.Author.Rules.{rules}
 use Rattle.ring.proofs.number_check.Statement.{statement}
 use Rattle.ring.proofs.number_check.Tie as tie
@@ -24,7 +24,7 @@ back-requires : tie.Need-back-requires
 back-requires c κs = search rules
 
 by-distance-requires : tie.Need-by-distance-requires
-by-distance-requires c κs = rw c.back.ensures (remainder-bound _ _)
+by-distance-requires c κs = rw c.back.ensures (remainder_bound _ _)
 
 returns-4 : tie.Need-returns-4
 unfolding check
@@ -33,7 +33,7 @@ returns-4 c =
     let same = d.before in
     let known = same.before.before.before in
     let checked = known.before.before in
-    c.by-distance.ensures ∙ rule4-by-distance _ _ _ _ d.back.ensures
+    c.by-distance.ensures ∙ rule4_by_distance _ _ _ _ d.back.ensures
     ∙ simp (checked.if1.false, ne_eqb _ _ known.if2.false, eq-eqb _ _ same.if3.false)
 
 pub number-check-spec : {M : Type 1} → statement M

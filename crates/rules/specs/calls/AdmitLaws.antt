@@ -4,104 +4,104 @@ use Rattle.std.proofs.Common.{sym, ap, ◌∙◌, ⊎_elim, arith, eq-eqb, ne_eq
 use Rattle.std.specs.Int.Count.{ones}
 use Rattle.std.proofs.lemmas.Nat.{ones-le}
 use Rattle.std.proofs.lemmas.Bool.{not-false}
-use Rattle.octets.specs.Split.{lt-or-le, cond-case, never_both, and_left}
-use Rattle.ring.specs.Check.{isRepeat}
+use Rattle.octets.specs.Split.{lt_or_le, cond_case, never_both, and_left}
+use Rattle.ring.specs.Check.{is_repeat}
 use Rattle.ring.specs.Ring.{OnRing, newer}
-use Rattle.ring.specs.RingLaws.{Order, one-order}
-use Rattle.ring.specs.RingLaws.Order.{same, isNewer, isOlder}
+use Rattle.ring.specs.RingLaws.{Order, one_order}
+use Rattle.ring.specs.RingLaws.Order.{same, is_newer, is_older}
 use Rattle.header.specs.declared.Head.{Head}
 use Rattle.cut.specs.Possible.{possible}
-use Rattle.cut.specs.PossibleLaws.{possible-facts, possible-most}
-use Rattle.map.specs.Map.{holds, pieceBit, fullMap}
-use Rattle.map.specs.MapLaws.{bit-zero, ones-set, marked-adds, holds_not, holds-zero, full_is}
+use Rattle.cut.specs.PossibleLaws.{possible_facts, possible_most}
+use Rattle.map.specs.Map.{holds, piece_bit, full_map}
+use Rattle.map.specs.MapLaws.{bit_zero, ones_set, marked_adds, holds_not, holds_zero, full_is}
 use Rattle.state.specs.declared.Sender.{Sender}
 use Rattle.answers.specs.declared.Admission.{Admission}
 use Rattle.answers.specs.declared.Dropped.{Dropped}
 use Rattle.answers.specs.declared.Outcome.{Outcome}
-use Rattle.rules.specs.calls.Admit.{sameVersion, rejoins, sameCut, verdictOf, senderRows, mapBefore, mapAfter, oneMore, keptAfter, fills, noneDropped, droppedBy, admitted, notAdmitted, admission}
-use Rattle.answers.specs.Told.{refusedNumber, refusal}
+use Rattle.rules.specs.calls.Admit.{same_version, rejoins, same_cut, verdict_of, sender_rows, map_before, map_after, one_more, kept_after, fills, none_dropped, dropped_by, admitted, not_admitted, admission}
+use Rattle.answers.specs.Told.{refused_number, refusal}
 use Rattle.rules.specs.calls.First.{first}
-use Rattle.rules.specs.calls.FirstLaws.{first-none}
+use Rattle.rules.specs.calls.FirstLaws.{first_none}
 
 -- An admitted PDU has a possible cut, is no repeat, is not older than the open message, has its cut if it belongs to
 -- it, and is a new piece of it.
 pub record Admitted (n1 : ℕ) (s : Sender) (h : Head) : Type 0 where
-  pub cut-possible : possible h.cut ≡ true
-  pub no-repeat : isRepeat (verdictOf n1 s h) ≡ false
-  pub not-older : s.«open» && sameVersion s h && newer s.message.number h.given.number ≡ false
-  pub same-cut : rejoins s h ≡ true → sameCut s.message h ≡ true
-  pub new-piece : rejoins s h ≡ true → holds s.message.map h.cut.cbn ≡ false
+  pub cut_possible : possible h.cut ≡ true
+  pub no_repeat : is_repeat (verdict_of n1 s h) ≡ false
+  pub not_older : s.«open» && same_version s h && newer s.message.number h.given.number ≡ false
+  pub same_cut_lem : rejoins s h ≡ true → same_cut s.message h ≡ true
+  pub new_piece : rejoins s h ≡ true → holds s.message.map h.cut.cbn ≡ false
 
-if-and : (a b : Bool) → a && b ≡ false → a ≡ true → b ≡ false
-if-and true b e f = e
-if-and false b e f = absurd (never_both f refl)
+if_and : (a b : Bool) → a && b ≡ false → a ≡ true → b ≡ false
+if_and true b e f = e
+if_and false b e f = absurd (never_both f refl)
 
-pub admitted-facts : (test : Bool) (n1 : ℕ) (s : Sender) (h : Head) → first (senderRows test n1 s h) ≡ 0 → Admitted n1 s h
-unfolding senderRows
-admitted-facts test n1 s h e =
-    let r15 = first-none 15 (eqb h.given.mode 1 && not test) _ (λ z. omega arith) e in
-    let r16 = first-none 16 (not (possible h.cut)) _ (λ z. omega arith) r15.1 in
-    let r17 = first-none 17 (isRepeat (verdictOf n1 s h)) _ (λ z. omega arith) r16.1 in
-    let r18 = first-none 18 _ _ (λ z. omega arith) r17.1 in
-    let r19 = first-none 19 (rejoins s h && not (sameCut s.message h)) _ (λ z. omega arith) r18.1 in
-    let r20 = first-none 20 (rejoins s h && holds s.message.map h.cut.cbn) _ (λ z. omega arith) r19.1 in
+pub admitted_facts : (test : Bool) (n1 : ℕ) (s : Sender) (h : Head) → first (sender_rows test n1 s h) ≡ 0 → Admitted n1 s h
+unfolding sender_rows
+admitted_facts test n1 s h e =
+    let r15 = first_none 15 (eqb h.given.mode 1 && not test) _ (λ z. omega arith) e in
+    let r16 = first_none 16 (not (possible h.cut)) _ (λ z. omega arith) r15.1 in
+    let r17 = first_none 17 (is_repeat (verdict_of n1 s h)) _ (λ z. omega arith) r16.1 in
+    let r18 = first_none 18 _ _ (λ z. omega arith) r17.1 in
+    let r19 = first_none 19 (rejoins s h && not (same_cut s.message h)) _ (λ z. omega arith) r18.1 in
+    let r20 = first_none 20 (rejoins s h && holds s.message.map h.cut.cbn) _ (λ z. omega arith) r19.1 in
     record {
-      cut-possible = not-false (possible h.cut) r16.0;
-      no-repeat = r17.0;
-      not-older = r18.0;
-      same-cut = λ f. not-false (sameCut s.message h) (if-and (rejoins s h) (not (sameCut s.message h)) r19.0 f);
-      new-piece = if-and (rejoins s h) (holds s.message.map h.cut.cbn) r20.0;
+      cut_possible = not-false (possible h.cut) r16.0;
+      no_repeat = r17.0;
+      not_older = r18.0;
+      same_cut_lem = λ f. not-false (same_cut s.message h) (if_and (rejoins s h) (not (same_cut s.message h)) r19.0 f);
+      new_piece = if_and (rejoins s h) (holds s.message.map h.cut.cbn) r20.0;
     }
 
 -- What belongs to the open message finds one open.
-pub rejoins-open : (s : Sender) (h : Head) → rejoins s h ≡ true → s.«open» ≡ true
+pub rejoins_open : (s : Sender) (h : Head) → rejoins s h ≡ true → s.«open» ≡ true
 unfolding rejoins
-rejoins-open s h e =
+rejoins_open s h e =
     let version = eqb s.message.version.0 h.given.version.0 in
     let number = eqb s.message.number.0 h.given.number.0 in
     and_left s.«open» version (and_left (s.«open» && version) number e)
 
 -- The piece of an admitted PDU is added to those held.
-pub map-adds : (n1 : ℕ) (s : Sender) (h : Head) → Admitted n1 s h → mapAfter s h ≡ mapBefore s h + pieceBit h.cut.cbn
-unfolding mapAfter
-map-adds n1 s h a =
+pub map_adds : (n1 : ℕ) (s : Sender) (h : Head) → Admitted n1 s h → map_after s h ≡ map_before s h + piece_bit h.cut.cbn
+unfolding map_after
+map_adds n1 s h a =
     let c = h.cut.cbn in
-    let f = possible-facts h.cut a.cut-possible in
-    marked-adds (mapBefore s h) c (omega (arith, possible-most h.cut a.cut-possible))
-    (cond-case (λ (m : ℕ). holds m c ≡ false) (rejoins s h) s.message.map 0 a.new-piece (λ _. holds-zero c))
+    let f = possible_facts h.cut a.cut_possible in
+    marked_adds (map_before s h) c (omega (arith, possible_most h.cut a.cut_possible))
+    (cond_case (λ (m : ℕ). holds m c ≡ false) (rejoins s h) s.message.map 0 a.new_piece (λ _. holds_zero c))
 
 -- So the map has one more.
-pub map-one-more : (n1 : ℕ) (s : Sender) (h : Head) → Admitted n1 s h → ones (mapAfter s h) ≡ suc (ones (mapBefore s h))
-map-one-more n1 s h a =
+pub map_one_more : (n1 : ℕ) (s : Sender) (h : Head) → Admitted n1 s h → ones (map_after s h) ≡ suc (ones (map_before s h))
+map_one_more n1 s h a =
     let c = h.cut.cbn in
-    rw (map-adds n1 s h a) (cond-case (λ (m : ℕ). ones (m + pieceBit c) ≡ suc (ones m)) (rejoins s h) s.message.map 0
-    (λ r. ones-set (c - 1) s.message.map (holds_not s.message.map c (a.new-piece r)))
-    (λ _. ones-set (c - 1) 0 (bit-zero (c - 1))))
+    rw (map_adds n1 s h a) (cond_case (λ (m : ℕ). ones (m + piece_bit c) ≡ suc (ones m)) (rejoins s h) s.message.map 0
+    (λ r. ones_set (c - 1) s.message.map (holds_not s.message.map c (a.new_piece r)))
+    (λ _. ones_set (c - 1) 0 (bit_zero (c - 1))))
 
 -- A number kept that is wrong is not set right by a piece more: a map of 64 pieces has too few ones for 255.
-pub kept-wrong : (n1 : ℕ) (s : Sender) (h : Head) → Admitted n1 s h → rejoins s h ≡ true → s.message.map < 2 ^ 64
-    → s.message.held ≢ ones s.message.map → keptAfter s h ≢ ones (mapAfter s h)
-unfolding keptAfter
-kept-wrong n1 s h a r short wrong right =
+pub kept_wrong : (n1 : ℕ) (s : Sender) (h : Head) → Admitted n1 s h → rejoins s h ≡ true → s.message.map < 2 ^ 64
+    → s.message.held ≢ ones s.message.map → kept_after s h ≢ ones (map_after s h)
+unfolding kept_after
+kept_wrong n1 s h a r short wrong right =
     let k = s.message.held in
-    let one_more : oneMore k ≡ suc (ones s.message.map) = rw r at (right ∙ map-one-more n1 s h a) in
+    let one_more : one_more k ≡ suc (ones s.message.map) = rw r at (right ∙ map_one_more n1 s h a) in
     ⊎_elim
     (λ (room : k < 255). wrong (omega (arith, rw (lt-ltb k 255 room) at one_more)))
     (λ (most : 255 ≤ k). omega (arith, rw (le-ltb k 255 most) at one_more, most, ones-le 64 s.message.map short))
-    (lt-or-le k 255)
+    (lt_or_le k 255)
 
-pub fills-full : (s : Sender) (h : Head) → fills s h ≡ eqb (mapAfter s h) (fullMap h.cut.tbn)
+pub fills_full : (s : Sender) (h : Head) → fills s h ≡ eqb (map_after s h) (full_map h.cut.tbn)
 unfolding fills
-fills-full s h = full_is (mapAfter s h) h.cut.tbn
+fills_full s h = full_is (map_after s h) h.cut.tbn
 
 -- An admitted PDU drops the open message exactly if it does not belong to it.
-pub drops-or-joins : (n1 : ℕ) (s : Sender) (h : Head) → Admitted n1 s h → OnRing s.message.number.0 → OnRing h.given.number.0
-    → droppedBy s h ≡ cond (s.«open» && not (rejoins s h)) (record { version = s.message.version; number = s.message.number }) noneDropped
-unfolding droppedBy rejoins
-drops-or-joins n1 s h a mine its = by s.«open» (sameVersion s h) a.not-older (one-order h.given.number s.message.number its mine)
+pub drops_or_joins : (n1 : ℕ) (s : Sender) (h : Head) → Admitted n1 s h → OnRing s.message.number.0 → OnRing h.given.number.0
+    → dropped_by s h ≡ cond (s.«open» && not (rejoins s h)) (record { version = s.message.version; number = s.message.number }) none_dropped
+unfolding dropped_by rejoins
+drops_or_joins n1 s h a mine its = by s.«open» (same_version s h) a.not_older (one_order h.given.number s.message.number its mine)
   where
-    comesNewer : Bool
-    comesNewer = newer h.given.number s.message.number
+    comes_newer : Bool
+    comes_newer = newer h.given.number s.message.number
 
     equal : Bool
     equal = eqb s.message.number.0 h.given.number.0
@@ -110,40 +110,40 @@ drops-or-joins n1 s h a mine its = by s.«open» (sameVersion s h) a.not-older (
     dropped = record { version = s.message.version; number = s.message.number }
 
     by : (o v : Bool) → o && v && newer s.message.number h.given.number ≡ false → Order h.given.number s.message.number
-        → cond (o && (not v || (v && comesNewer))) dropped noneDropped ≡ cond (o && not (o && v && equal)) dropped noneDropped
+        → cond (o && (not v || (v && comes_newer))) dropped none_dropped ≡ cond (o && not (o && v && equal)) dropped none_dropped
     by false v e order = refl
     by true false e order = refl
     by true true e (same q f g) = rw (f, eq-eqb s.message.number.0 h.given.number.0 (sym q))
-    by true true e (isNewer n f g) = rw (f, ne_eqb s.message.number.0 h.given.number.0 (λ z. n (sym z)))
-    by true true e (isOlder n f g) = absurd (never_both g e)
+    by true true e (is_newer n f g) = rw (f, ne_eqb s.message.number.0 h.given.number.0 (λ z. n (sym z)))
+    by true true e (is_older n f g) = absurd (never_both g e)
 
 -- ---- the admission by its number
 
-pub admission-yes : (test : Bool) (n1 clock : ℕ) (s : Sender) (h : Head) → first (senderRows test n1 s h) ≡ 0 → admission test n1 clock s h ≡ admitted n1 clock s h
+pub admission_yes : (test : Bool) (n1 clock : ℕ) (s : Sender) (h : Head) → first (sender_rows test n1 s h) ≡ 0 → admission test n1 clock s h ≡ admitted n1 clock s h
 unfolding admission
-admission-yes test n1 clock s h e = rw (eq-eqb (first (senderRows test n1 s h)) 0 e)
+admission_yes test n1 clock s h e = rw (eq-eqb (first (sender_rows test n1 s h)) 0 e)
 
-pub admission-no : (test : Bool) (n1 clock : ℕ) (s : Sender) (h : Head) (k : ℕ) → k ≡ first (senderRows test n1 s h) → (k ≡ 0 → ⊥)
-    → notAdmitted s (refusal k (verdictOf n1 s h)) ≡ admission test n1 clock s h
+pub admission_no : (test : Bool) (n1 clock : ℕ) (s : Sender) (h : Head) (k : ℕ) → k ≡ first (sender_rows test n1 s h) → (k ≡ 0 → ⊥)
+    → not_admitted s (refusal k (verdict_of n1 s h)) ≡ admission test n1 clock s h
 unfolding admission
-admission-no test n1 clock s h k e ne = rw (e, ne_eqb (first (senderRows test n1 s h)) 0 (λ z. ne (e ∙ z)))
+admission_no test n1 clock s h k e ne = rw (e, ne_eqb (first (sender_rows test n1 s h)) 0 (λ z. ne (e ∙ z)))
 
 -- The number that the outcome holds is that of the first row that applies.
-pub admitted-zero : (n1 clock : ℕ) (s : Sender) (h : Head) → refusedNumber (admitted n1 clock s h).outcome ≡ 0
+pub admitted_zero : (n1 clock : ℕ) (s : Sender) (h : Head) → refused_number (admitted n1 clock s h).outcome ≡ 0
 unfolding admitted
-admitted-zero n1 clock s h = cond-case (λ (o : Outcome). refusedNumber o ≡ 0) (fills s h) _ _ (λ e. refl) (λ e. refl)
+admitted_zero n1 clock s h = cond_case (λ (o : Outcome). refused_number o ≡ 0) (fills s h) _ _ (λ e. refl) (λ e. refl)
 
-pub admission-number : (test : Bool) (n1 clock : ℕ) (s : Sender) (h : Head)
-    → refusedNumber (admission test n1 clock s h).outcome ≡ first (senderRows test n1 s h)
-unfolding admission notAdmitted
-admission-number test n1 clock s h = by (first (senderRows test n1 s h)) (eqb (first (senderRows test n1 s h)) 0) refl
+pub admission_number : (test : Bool) (n1 clock : ℕ) (s : Sender) (h : Head)
+    → refused_number (admission test n1 clock s h).outcome ≡ first (sender_rows test n1 s h)
+unfolding admission not_admitted
+admission_number test n1 clock s h = by (first (sender_rows test n1 s h)) (eqb (first (sender_rows test n1 s h)) 0) refl
   where
-    by : (k : ℕ) (b : Bool) → eqb k 0 ≡ b → refusedNumber (cond {A = Admission} b (admitted n1 clock s h) (notAdmitted s (refusal k (verdictOf n1 s h)))).outcome ≡ k
-    by k true e = admitted-zero n1 clock s h ∙ sym (eqb-true k 0 e)
+    by : (k : ℕ) (b : Bool) → eqb k 0 ≡ b → refused_number (cond {A = Admission} b (admitted n1 clock s h) (not_admitted s (refusal k (verdict_of n1 s h)))).outcome ≡ k
+    by k true e = admitted_zero n1 clock s h ∙ sym (eqb-true k 0 e)
     by k false e = refl
 
 -- With a refusal the outcome is that refusal.
-pub admission-refused : (test : Bool) (n1 clock : ℕ) (s : Sender) (h : Head) (k : ℕ) → k ≡ first (senderRows test n1 s h) → k ≢ 0
-    → (admission test n1 clock s h).outcome ≡ refusal k (verdictOf n1 s h)
-unfolding notAdmitted
-admission-refused test n1 clock s h k e ne = sym (ap (λ (a : Admission). a.outcome) (admission-no test n1 clock s h k e ne))
+pub admission_refused : (test : Bool) (n1 clock : ℕ) (s : Sender) (h : Head) (k : ℕ) → k ≡ first (sender_rows test n1 s h) → k ≢ 0
+    → (admission test n1 clock s h).outcome ≡ refusal k (verdict_of n1 s h)
+unfolding not_admitted
+admission_refused test n1 clock s h k e ne = sym (ap (λ (a : Admission). a.outcome) (admission_no test n1 clock s h k e ne))

@@ -5,12 +5,12 @@ use Rattle.state.specs.declared.Receiver.{Receiver}
 use Rattle.answers.specs.declared.Call.TheVariants.{Done, Refused}
 use Rattle.answers.specs.declared.Ticked.{Ticked}
 use Rattle.rules.specs.calls.First.{Row, row, first}
-use Rattle.state.specs.Limits.{valid, clockMost}
-use Rattle.state.specs.State.{noMessage, noHeard, noSender, settingsFrom, state_of, withMessage, withHeard}
+use Rattle.state.specs.Limits.{valid, clock_most}
+use Rattle.state.specs.State.{no_message, no_heard, no_sender, settings_from, state_of, with_message, with_heard}
 
 -- "21: clock back or above its limit"
-abbrev pub clockRows : Receiver → ℕ → List Row
-clockRows w ms = row 9 (not (valid w)) ∷ row 21 (ltb ms w.clock || ltb clockMost ms) ∷ []
+abbrev pub clock_rows : Receiver → ℕ → List Row
+clock_rows w ms = row 9 (not (valid w)) ∷ row 21 (ltb ms w.clock || ltb clock_most ms) ∷ []
 
 -- "It drops each open message whose age is T or more"
 abbrev pub drops : ℕ → ℕ → Sender → Bool
@@ -22,35 +22,35 @@ abbrev pub dies : ℕ → Sender → Bool
 dies ms s = s.alive && leb (1000 * s.heard.timeout) (ms - s.heard.stamp)
 
 -- "The record of a message not open, the stamp and al_tm_out of a sender not alive … are written 0".
-abbrev pub droppedIf : Bool → Sender → Sender
-droppedIf so s = withMessage s (s.«open» && not so) (cond so noMessage s.message)
+abbrev pub dropped_if : Bool → Sender → Sender
+dropped_if so s = with_message s (s.«open» && not so) (cond so no_message s.message)
 
-abbrev pub deadIf : Bool → Sender → Sender
-deadIf so s = withHeard s (s.alive && not so) (cond so noHeard s.heard)
+abbrev pub dead_if : Bool → Sender → Sender
+dead_if so s = with_heard s (s.alive && not so) (cond so no_heard s.heard)
 
 unfoldable pub aged : ℕ → ℕ → Sender → Sender
-aged t now s = deadIf (dies now s) (droppedIf (drops t now s) s)
+aged t now s = dead_if (dies now s) (dropped_if (drops t now s) s)
 
 -- The first k senders aged.
-unfoldable pub agedSenders : ℕ → ℕ → List Sender → ℕ → List Sender
-agedSenders t ms l zero = l
-agedSenders t ms l (suc k) = set (agedSenders t ms l k) k (aged t ms (get_or l k noSender))
+unfoldable pub aged_senders : ℕ → ℕ → List Sender → ℕ → List Sender
+aged_senders t ms l zero = l
+aged_senders t ms l (suc k) = set (aged_senders t ms l k) k (aged t ms (get_or l k no_sender))
 
 -- "reports both as 16-bit maps, first sender lowest": the first k senders of which something holds.
-unfoldable pub mapWhere : (Sender → Bool) → List Sender → ℕ → ℕ
-mapWhere f l zero = 0
-mapWhere f l (suc k) = mapWhere f l k + cond (f (get_or l k noSender)) (2 ^ k) 0
+unfoldable pub map_where : (Sender → Bool) → List Sender → ℕ → ℕ
+map_where f l zero = 0
+map_where f l (suc k) = map_where f l k + cond (f (get_or l k no_sender)) (2 ^ k) 0
 
 unfoldable pub ticked : Receiver → ℕ → Ticked
 ticked w now = record {
   call = Done;
-  dropped = mapWhere (drops w.t now) w.senders w.count;
-  dead = mapWhere (dies now) w.senders w.count;
-  state = state_of (settingsFrom w) now (agedSenders w.t now w.senders w.count);
+  dropped = map_where (drops w.t now) w.senders w.count;
+  dead = map_where (dies now) w.senders w.count;
+  state = state_of (settings_from w) now (aged_senders w.t now w.senders w.count);
 }
 
-unfoldable pub notTicked : Receiver → ℕ → Ticked
-notTicked w k = record { call = Refused k; dropped = 0; dead = 0; state = w }
+unfoldable pub not_ticked : Receiver → ℕ → Ticked
+not_ticked w k = record { call = Refused k; dropped = 0; dead = 0; state = w }
 
-unfoldable pub clockAnswer : Receiver → ℕ → Ticked
-clockAnswer w ms = cond (eqb (first (clockRows w ms)) 0) (ticked w ms) (notTicked w (first (clockRows w ms)))
+unfoldable pub clock_answer : Receiver → ℕ → Ticked
+clock_answer w ms = cond (eqb (first (clock_rows w ms)) 0) (ticked w ms) (not_ticked w (first (clock_rows w ms)))

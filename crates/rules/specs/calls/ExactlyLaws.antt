@@ -7,7 +7,7 @@ use Rattle.std.specs.Prelude.{◌≡◌, Bool, true, false, cond, List, ℕ, ◌
 use Rattle.std.proofs.Math.Path.{refl}
 use Rattle.std.proofs.Common.{sym, ◌∙◌, arith, ne_eqb}
 use Rattle.std.proofs.lemmas.Bool.{eqb-false}
-use Rattle.octets.specs.Split.{cond-case}
+use Rattle.octets.specs.Split.{cond_case}
 use Rattle.header.specs.declared.Head.{Head}
 use Rattle.header.specs.Head.{head_of}
 use Rattle.state.specs.declared.Receiver.{Receiver}
@@ -20,43 +20,43 @@ use Rattle.answers.specs.declared.Missing.TheVariants as missing
 use Rattle.answers.specs.declared.Outcome.{Outcome}
 use Rattle.answers.specs.declared.Setup.{Setup}
 use Rattle.answers.specs.declared.Started.{Started}
-use Rattle.answers.specs.Told.{leastRefusal, RefusedAs, messageTold, groupTold, callNumber, clockTold, questionTold, outcomeTold, refusal, OutcomeTells, CallTells, MissingTells}
-use Rattle.rules.specs.calls.Admit.{senderRows, admitted, fills}
-use Rattle.rules.specs.calls.Alive.{aliveRows, notNoted, aliveAnswer}
-use Rattle.rules.specs.calls.Clock.{clockRows, ticked, notTicked, clockAnswer}
+use Rattle.answers.specs.Told.{least_refusal, RefusedAs, message_told, group_told, call_number, clock_told, question_told, outcome_told, refusal, OutcomeTells, CallTells, MissingTells}
+use Rattle.rules.specs.calls.Admit.{sender_rows, admitted, fills}
+use Rattle.rules.specs.calls.Alive.{alive_rows, not_noted, alive_answer}
+use Rattle.rules.specs.calls.Clock.{clock_rows, ticked, not_ticked, clock_answer}
 use Rattle.rules.specs.calls.First.{Row, first, Given}
-use Rattle.rules.specs.calls.FirstLaws.{given-first, first-given, above, rises, given_above}
+use Rattle.rules.specs.calls.FirstLaws.{given_first, first_given, above, rises, given_above}
 use Rattle.state.specs.Table.{found}
-use Rattle.rules.specs.calls.Message.{messageRows, taken, refused, verdictAt, messageAnswer, messageStorage}
-use Rattle.rules.specs.calls.Multicast.{Tables, verdictIn, castRows, listening, multicastRows, castOutcome, keptBy, groupAnswer, multicastAnswer, multicastTables}
-use Rattle.rules.specs.calls.Question.{questionRows, firstOpen, questionAnswer}
-use Rattle.rules.specs.calls.Setup.{setupWithin, setupState, setupAnswer}
-use Rattle.state.specs.State.{senderAt, emptyReceiver}
+use Rattle.rules.specs.calls.Message.{message_rows, taken, refused, verdict_at, message_answer, message_storage}
+use Rattle.rules.specs.calls.Multicast.{Tables, verdict_in, cast_rows, listening, multicast_rows, cast_outcome, kept_by, group_answer, multicast_answer, multicast_tables}
+use Rattle.rules.specs.calls.Question.{question_rows, first_open, question_answer}
+use Rattle.rules.specs.calls.Setup.{setup_within, setup_state, setup_answer}
+use Rattle.state.specs.State.{sender_at, empty_receiver}
 
 -- ---- for every call
 
 -- An answer that is made by the first of some rows, all with a refusal's number: `yes` where none applies, and `no k`
 -- where k is given.
 module _ {A : Type 0} (rs : List Row) (n : above 8 rs ≡ true) (yes : A) (no : ℕ → A) where
-  abbrev Answer-by : A
-  Answer-by = cond (eqb (first rs) 0) yes (no (first rs))
+  abbrev Answer_by : A
+  Answer_by = cond (eqb (first rs) 0) yes (no (first rs))
 
-  given-refused : (k : ℕ) → Given rs k → Answer-by ≡ no k
-  given-refused k g = rw (given-first rs k g, ne_eqb k 0 (λ z. omega (arith, z, given_above 8 rs k n g)))
+  given_refused : (k : ℕ) → Given rs k → Answer_by ≡ no k
+  given_refused k g = rw (given_first rs k g, ne_eqb k 0 (λ z. omega (arith, z, given_above 8 rs k n g)))
 
   -- Where `yes` tells no refusal and `no k` tells k, a refusal with k is told only where k is given.
-  refused-given : (told : A → ℕ) → told yes < leastRefusal → ((k : ℕ) → told (no k) ≡ k) → (k : ℕ) → RefusedAs (told Answer-by) k → Given rs k
-  refused-given told low same k r = by (eqb (first rs) 0) refl r
+  refused_given : (told : A → ℕ) → told yes < least_refusal → ((k : ℕ) → told (no k) ≡ k) → (k : ℕ) → RefusedAs (told Answer_by) k → Given rs k
+  refused_given told low same k r = by (eqb (first rs) 0) refl r
     where
       by : (b : Bool) → eqb (first rs) 0 ≡ b → RefusedAs (told (cond {A = A} b yes (no (first rs)))) k → Given rs k
       by true e x = absurd (omega (arith, low, x.0, x.1))
-      by false e x = first-given rs k (sym (same (first rs)) ∙ x.0) (λ z. omega (arith, x.1, z))
+      by false e x = first_given rs k (sym (same (first rs)) ∙ x.0) (λ z. omega (arith, x.1, z))
 
   -- What holds of `yes` and of every refusal holds of the answer.
-  tells-by : (P : A → Type 0) → P yes → ((k : ℕ) → leastRefusal ≤ k → P (no k)) → P Answer-by
-  tells-by P done refuses = cond-case P (eqb (first rs) 0) yes (no (first rs))
+  tells_by : (P : A → Type 0) → P yes → ((k : ℕ) → least_refusal ≤ k → P (no k)) → P Answer_by
+  tells_by P done refuses = cond_case P (eqb (first rs) 0) yes (no (first rs))
       (λ e. done)
-      (λ e. refuses (first rs) (omega (arith, given_above 8 rs (first rs) n (first-given rs (first rs) refl (eqb-false (first rs) 0 e)))))
+      (λ e. refuses (first rs) (omega (arith, given_above 8 rs (first rs) n (first_given rs (first rs) refl (eqb-false (first rs) 0 e)))))
 
 -- ---- the message call: 9 and 11 to 20
 
@@ -65,112 +65,112 @@ module _ (w : Receiver) (storage packet : List ℕ) where
   h = head_of packet
 
   abbrev s : Sender
-  s = senderAt w (found w h)
+  s = sender_at w (found w h)
 
-  message-above : above 8 (messageRows w (length storage) packet) ≡ true
-  unfolding messageRows senderRows above
-  message-above = refl
+  message_above : above 8 (message_rows w (length storage) packet) ≡ true
+  unfolding message_rows sender_rows above
+  message_above = refl
 
-  pub message-rises : rises (messageRows w (length storage) packet) ≡ true
-  unfolding messageRows senderRows rises above
-  message-rises = refl
+  pub message_rises : rises (message_rows w (length storage) packet) ≡ true
+  unfolding message_rows sender_rows rises above
+  message_rises = refl
 
-  taken-told : (messageTold (taken w (found w h) s h)).outcome.number < leastRefusal
+  taken_told : (message_told (taken w (found w h) s h)).outcome.number < least_refusal
   unfolding taken admitted
-  taken-told = cond-case (λ (o : Outcome). (outcomeTold o).number < leastRefusal) (fills s h) _ _ (λ _. omega arith) (λ _. omega arith)
+  taken_told = cond_case (λ (o : Outcome). (outcome_told o).number < least_refusal) (fills s h) _ _ (λ _. omega arith) (λ _. omega arith)
 
-  taken-tells : OutcomeTells (taken w (found w h) s h).outcome
+  taken_tells : OutcomeTells (taken w (found w h) s h).outcome
   unfolding taken admitted
-  taken-tells = cond-case OutcomeTells (fills s h) _ _ (λ _. tt) (λ _. tt)
+  taken_tells = cond_case OutcomeTells (fills s h) _ _ (λ _. tt) (λ _. tt)
 
   abbrev no : ℕ → Answer
-  no k = refused w (refusal k (verdictAt w h))
+  no k = refused w (refusal k (verdict_at w h))
 
-  pub message-refuses : (k : ℕ) → Given (messageRows w (length storage) packet) k
-      → (messageAnswer w (length storage) packet ≡ refused w (refusal k (verdictAt w h))) × (messageStorage w storage packet ≡ storage)
-  unfolding messageAnswer messageStorage
-  message-refuses k g = (
-    given-refused (messageRows w (length storage) packet) message-above _ no k g,
-    given-refused (messageRows w (length storage) packet) message-above _ (λ j. storage) k g,
+  pub message_refuses : (k : ℕ) → Given (message_rows w (length storage) packet) k
+      → (message_answer w (length storage) packet ≡ refused w (refusal k (verdict_at w h))) × (message_storage w storage packet ≡ storage)
+  unfolding message_answer message_storage
+  message_refuses k g = (
+    given_refused (message_rows w (length storage) packet) message_above _ no k g,
+    given_refused (message_rows w (length storage) packet) message_above _ (λ j. storage) k g,
   )
 
-  pub message-given : (k : ℕ) → RefusedAs (messageTold (messageAnswer w (length storage) packet)).outcome.number k → Given (messageRows w (length storage) packet) k
-  unfolding messageAnswer refused
-  message-given =
-      refused-given (messageRows w (length storage) packet) message-above _ no (λ a. (messageTold a).outcome.number) taken-told (λ k. refl)
+  pub message_given : (k : ℕ) → RefusedAs (message_told (message_answer w (length storage) packet)).outcome.number k → Given (message_rows w (length storage) packet) k
+  unfolding message_answer refused
+  message_given =
+      refused_given (message_rows w (length storage) packet) message_above _ no (λ a. (message_told a).outcome.number) taken_told (λ k. refl)
 
-  pub message-tells : OutcomeTells (messageAnswer w (length storage) packet).outcome
-  unfolding messageAnswer refused
-  message-tells =
-      tells-by (messageRows w (length storage) packet) message-above _ no (λ a. OutcomeTells a.outcome) taken-tells (λ k more. more)
+  pub message_tells : OutcomeTells (message_answer w (length storage) packet).outcome
+  unfolding message_answer refused
+  message_tells =
+      tells_by (message_rows w (length storage) packet) message_above _ no (λ a. OutcomeTells a.outcome) taken_tells (λ k more. more)
 
 -- ---- the alive call: 9, 12, 13, 14, 22
 
 module _ (w : Receiver) (packet : List ℕ) where
-  alive-above : above 8 (aliveRows w packet) ≡ true
-  unfolding aliveRows above
-  alive-above = refl
+  alive_above : above 8 (alive_rows w packet) ≡ true
+  unfolding alive_rows above
+  alive_above = refl
 
-  pub alive-rises : rises (aliveRows w packet) ≡ true
-  unfolding aliveRows rises above
-  alive-rises = refl
+  pub alive_rises : rises (alive_rows w packet) ≡ true
+  unfolding alive_rows rises above
+  alive_rises = refl
 
-  pub alive-refuses : (k : ℕ) → Given (aliveRows w packet) k → aliveAnswer w packet ≡ notNoted w k
-  unfolding aliveAnswer
-  alive-refuses = given-refused (aliveRows w packet) alive-above _ (notNoted w)
+  pub alive_refuses : (k : ℕ) → Given (alive_rows w packet) k → alive_answer w packet ≡ not_noted w k
+  unfolding alive_answer
+  alive_refuses = given_refused (alive_rows w packet) alive_above _ (not_noted w)
 
-  pub alive-given : (k : ℕ) → RefusedAs (callNumber (aliveAnswer w packet).call) k → Given (aliveRows w packet) k
-  unfolding aliveAnswer
-  alive-given = refused-given (aliveRows w packet) alive-above _ (notNoted w) (λ a. callNumber a.call) (omega arith) (λ k. refl)
+  pub alive_given : (k : ℕ) → RefusedAs (call_number (alive_answer w packet).call) k → Given (alive_rows w packet) k
+  unfolding alive_answer
+  alive_given = refused_given (alive_rows w packet) alive_above _ (not_noted w) (λ a. call_number a.call) (omega arith) (λ k. refl)
 
-  pub alive-tells : CallTells (aliveAnswer w packet).call
-  unfolding aliveAnswer
-  alive-tells = tells-by (aliveRows w packet) alive-above _ (notNoted w) (λ a. CallTells a.call) tt (λ k more. more)
+  pub alive_tells : CallTells (alive_answer w packet).call
+  unfolding alive_answer
+  alive_tells = tells_by (alive_rows w packet) alive_above _ (not_noted w) (λ a. CallTells a.call) tt (λ k more. more)
 
 -- ---- the clock call: 9, 21
 
 module _ (w : Receiver) (now : ℕ) where
-  clock-above : above 8 (clockRows w now) ≡ true
+  clock_above : above 8 (clock_rows w now) ≡ true
   unfolding above
-  clock-above = refl
+  clock_above = refl
 
-  pub clock-rises : rises (clockRows w now) ≡ true
+  pub clock_rises : rises (clock_rows w now) ≡ true
   unfolding rises above
-  clock-rises = refl
+  clock_rises = refl
 
-  pub clock-refuses : (k : ℕ) → Given (clockRows w now) k → clockAnswer w now ≡ notTicked w k
-  unfolding clockAnswer
-  clock-refuses = given-refused (clockRows w now) clock-above _ (notTicked w)
+  pub clock_refuses : (k : ℕ) → Given (clock_rows w now) k → clock_answer w now ≡ not_ticked w k
+  unfolding clock_answer
+  clock_refuses = given_refused (clock_rows w now) clock_above _ (not_ticked w)
 
-  pub clock-given : (k : ℕ) → RefusedAs (clockTold (clockAnswer w now)).number k → Given (clockRows w now) k
-  unfolding clockAnswer ticked notTicked
-  clock-given = refused-given (clockRows w now) clock-above _ (notTicked w) (λ a. (clockTold a).number) (omega arith) (λ k. refl)
+  pub clock_given : (k : ℕ) → RefusedAs (clock_told (clock_answer w now)).number k → Given (clock_rows w now) k
+  unfolding clock_answer ticked not_ticked
+  clock_given = refused_given (clock_rows w now) clock_above _ (not_ticked w) (λ a. (clock_told a).number) (omega arith) (λ k. refl)
 
-  pub clock-tells : CallTells (clockAnswer w now).call
-  unfolding clockAnswer ticked notTicked
-  clock-tells = tells-by (clockRows w now) clock-above _ (notTicked w) (λ a. CallTells a.call) tt (λ k more. more)
+  pub clock_tells : CallTells (clock_answer w now).call
+  unfolding clock_answer ticked not_ticked
+  clock_tells = tells_by (clock_rows w now) clock_above _ (not_ticked w) (λ a. CallTells a.call) tt (λ k more. more)
 
 -- ---- the question: 9
 
 module _ (w : Receiver) where
-  question-above : above 8 (questionRows w) ≡ true
+  question_above : above 8 (question_rows w) ≡ true
   unfolding above
-  question-above = refl
+  question_above = refl
 
-  pub question-refuses : (k : ℕ) → Given (questionRows w) k → questionAnswer w ≡ missing.Refused k
-  unfolding questionAnswer
-  question-refuses = given-refused (questionRows w) question-above _ missing.Refused
+  pub question_refuses : (k : ℕ) → Given (question_rows w) k → question_answer w ≡ missing.Refused k
+  unfolding question_answer
+  question_refuses = given_refused (question_rows w) question_above _ missing.Refused
 
-  pub question-given : (k : ℕ) → RefusedAs (questionTold (questionAnswer w)).number k → Given (questionRows w) k
-  unfolding questionAnswer
-  question-given = refused-given (questionRows w) question-above _ missing.Refused (λ a. (questionTold a).number)
-      (cond-case (λ (a : Missing). (questionTold a).number < leastRefusal) (ltb (firstOpen w) w.count) _ _ (λ _. omega arith) (λ _. omega arith))
+  pub question_given : (k : ℕ) → RefusedAs (question_told (question_answer w)).number k → Given (question_rows w) k
+  unfolding question_answer
+  question_given = refused_given (question_rows w) question_above _ missing.Refused (λ a. (question_told a).number)
+      (cond_case (λ (a : Missing). (question_told a).number < least_refusal) (ltb (first_open w) w.count) _ _ (λ _. omega arith) (λ _. omega arith))
       (λ k. refl)
 
-  pub question-tells : MissingTells (questionAnswer w)
-  unfolding questionAnswer
-  question-tells = tells-by (questionRows w) question-above _ missing.Refused MissingTells
-      (cond-case MissingTells (ltb (firstOpen w) w.count) _ _ (λ _. tt) (λ _. tt)) (λ k more. more)
+  pub question_tells : MissingTells (question_answer w)
+  unfolding question_answer
+  question_tells = tells_by (question_rows w) question_above _ missing.Refused MissingTells
+      (cond_case MissingTells (ltb (first_open w) w.count) _ _ (λ _. tt) (λ _. tt)) (λ k more. more)
 
 -- ---- the multicast call: 9, 26, 12 to 14, 25, 15 to 17
 
@@ -178,46 +178,46 @@ module _ (w : Receiver) (t : Tables) (g : ℕ) (packet : List ℕ) where
   abbrev heard : Listener
   heard = listening w (head_of packet)
 
-  pub multicast-above : above 8 (multicastRows w t g packet) ≡ true
-  unfolding castRows above
-  multicast-above = refl
+  pub multicast_above : above 8 (multicast_rows w t g packet) ≡ true
+  unfolding cast_rows above
+  multicast_above = refl
 
   abbrev unheard : ℕ → Outcome
-  unheard k = refusal k (verdictIn heard t g (head_of packet))
+  unheard k = refusal k (verdict_in heard t g (head_of packet))
 
-  outcome-refused : (k : ℕ) → Given (multicastRows w t g packet) k → castOutcome heard t g packet (head_of packet) ≡ unheard k
-  unfolding castOutcome
-  outcome-refused = given-refused (multicastRows w t g packet) multicast-above _ unheard
+  outcome_refused_lem : (k : ℕ) → Given (multicast_rows w t g packet) k → cast_outcome heard t g packet (head_of packet) ≡ unheard k
+  unfolding cast_outcome
+  outcome_refused_lem = given_refused (multicast_rows w t g packet) multicast_above _ unheard
 
-  pub multicast-refuses : (k : ℕ) → Given (multicastRows w t g packet) k
-      → (multicastAnswer w t g packet ≡ groupAnswer (refusal k (verdictIn (listening w (head_of packet)) t g (head_of packet)))) × (multicastTables w t g packet ≡ t)
-  unfolding multicastAnswer multicastTables keptBy
-  multicast-refuses k given = (rw (outcome-refused k given), rw (outcome-refused k given))
+  pub multicast_refuses : (k : ℕ) → Given (multicast_rows w t g packet) k
+      → (multicast_answer w t g packet ≡ group_answer (refusal k (verdict_in (listening w (head_of packet)) t g (head_of packet)))) × (multicast_tables w t g packet ≡ t)
+  unfolding multicast_answer multicast_tables kept_by
+  multicast_refuses k given = (rw (outcome_refused_lem k given), rw (outcome_refused_lem k given))
 
-  pub multicast-given : (k : ℕ) → RefusedAs (groupTold (multicastAnswer w t g packet)).outcome.number k → Given (multicastRows w t g packet) k
-  unfolding multicastAnswer castOutcome
-  multicast-given = refused-given (multicastRows w t g packet) multicast-above _ unheard (λ o. (outcomeTold o).number) (omega arith) (λ k. refl)
+  pub multicast_given : (k : ℕ) → RefusedAs (group_told (multicast_answer w t g packet)).outcome.number k → Given (multicast_rows w t g packet) k
+  unfolding multicast_answer cast_outcome
+  multicast_given = refused_given (multicast_rows w t g packet) multicast_above _ unheard (λ o. (outcome_told o).number) (omega arith) (λ k. refl)
 
-  pub multicast-tells : OutcomeTells (multicastAnswer w t g packet).outcome
-  unfolding multicastAnswer castOutcome
-  multicast-tells = tells-by (multicastRows w t g packet) multicast-above _ unheard OutcomeTells tt (λ k more. more)
+  pub multicast_tells : OutcomeTells (multicast_answer w t g packet).outcome
+  unfolding multicast_answer cast_outcome
+  multicast_tells = tells_by (multicast_rows w t g packet) multicast_above _ unheard OutcomeTells tt (λ k more. more)
 
 -- ---- setup: 10
 
 -- "10: setup outside its limits: empty state"
-pub setup-refuses : (q : Setup) → setupWithin q ≡ false → setupAnswer q ≡ record { call = call.Refused 10; state = emptyReceiver }
-unfolding setupAnswer
-setup-refuses q e = rw e
+pub setup_refuses : (q : Setup) → setup_within q ≡ false → setup_answer q ≡ record { call = call.Refused 10; state = empty_receiver }
+unfolding setup_answer
+setup_refuses q e = rw e
 
-pub setup-given : (q : Setup) (k : ℕ) → RefusedAs (callNumber (setupAnswer q).call) k → (k ≡ 10) × (setupWithin q ≡ false)
-unfolding setupAnswer
-setup-given q k = by (setupWithin q)
+pub setup_given : (q : Setup) (k : ℕ) → RefusedAs (call_number (setup_answer q).call) k → (k ≡ 10) × (setup_within q ≡ false)
+unfolding setup_answer
+setup_given q k = by (setup_within q)
   where
-    by : (b : Bool) → RefusedAs (callNumber (cond {A = Started} b (record { call = call.Done; state = setupState q }) (record { call = call.Refused 10; state = emptyReceiver })).call) k
+    by : (b : Bool) → RefusedAs (call_number (cond {A = Started} b (record { call = call.Done; state = setup_state q }) (record { call = call.Refused 10; state = empty_receiver })).call) k
         → (k ≡ 10) × (b ≡ false)
     by true r = absurd (omega (arith, r.0, r.1))
     by false r = (sym r.0, refl)
 
-pub setup-tells : (q : Setup) → CallTells (setupAnswer q).call
-unfolding setupAnswer
-setup-tells q = cond-case (λ (a : Started). CallTells a.call) (setupWithin q) _ _ (λ _. tt) (λ _. omega arith)
+pub setup_tells : (q : Setup) → CallTells (setup_answer q).call
+unfolding setup_answer
+setup_tells q = cond_case (λ (a : Started). CallTells a.call) (setup_within q) _ _ (λ _. tt) (λ _. omega arith)

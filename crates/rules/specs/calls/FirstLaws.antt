@@ -2,22 +2,22 @@
 use Rattle.std.specs.Prelude.{◌≡◌, refl, ◌≢◌, Bool, true, false, not, cond, ◌&&◌, List, [], ◌∷◌, ◌++◌, ℕ, ◌<◌, eqb, ltb}
 use Rattle.std.proofs.Common.{sym, ap, ◌∙◌, inl, inr, ⊎_elim, arith, ltb-true, ne_eqb, eqb-true}
 use Rattle.std.proofs.lemmas.Bool.{eqb-false, not-true}
-use Rattle.octets.specs.Split.{true-or-false, cond-case, and_left, and_right}
+use Rattle.octets.specs.Split.{true_or_false, cond_case, and_left, and_right}
 use Rattle.rules.specs.calls.First.{Row, row, first, Given}
 
-pub first-here : (k : ℕ) (b : Bool) (rs : List Row) → b ≡ true → first (row k b ∷ rs) ≡ k
+pub first_here : (k : ℕ) (b : Bool) (rs : List Row) → b ≡ true → first (row k b ∷ rs) ≡ k
 unfolding first
-first-here k b rs e = rw e
+first_here k b rs e = rw e
 
-pub first-later : (k : ℕ) (b : Bool) (rs : List Row) → b ≡ false → first (row k b ∷ rs) ≡ first rs
+pub first_later : (k : ℕ) (b : Bool) (rs : List Row) → b ≡ false → first (row k b ∷ rs) ≡ first rs
 unfolding first
-first-later k b rs e = rw e
+first_later k b rs e = rw e
 
 -- Where no number is given, no row with a number of its own applies.
-pub first-none : (k : ℕ) (b : Bool) (rs : List Row) → k ≢ 0 → first (row k b ∷ rs) ≡ 0 → (b ≡ false) × (first rs ≡ 0)
+pub first_none : (k : ℕ) (b : Bool) (rs : List Row) → k ≢ 0 → first (row k b ∷ rs) ≡ 0 → (b ≡ false) × (first rs ≡ 0)
 unfolding first
-first-none k true rs ne e = absurd (ne e)
-first-none k false rs ne e = (refl, e)
+first_none k true rs ne e = absurd (ne e)
+first_none k false rs ne e = (refl, e)
 
 -- Every row has a number of its own.
 unfoldable pub numbered : List Row → Bool
@@ -25,10 +25,10 @@ numbered [] = true
 numbered (r ∷ rs) = ltb 0 r.number && numbered rs
 
 -- Rows behind others are tried where none of those applies.
-pub first-append : (rs qs : List Row) → numbered rs ≡ true → first (rs ++ qs) ≡ cond (eqb (first rs) 0) (first qs) (first rs)
+pub first_append : (rs qs : List Row) → numbered rs ≡ true → first (rs ++ qs) ≡ cond (eqb (first rs) 0) (first qs) (first rs)
 unfolding first numbered
-first-append [] qs e = refl
-first-append (r ∷ rs) qs e = by r.applies (first-append rs qs (and_right (ltb 0 r.number) (numbered rs) e))
+first_append [] qs e = refl
+first_append (r ∷ rs) qs e = by r.applies (first_append rs qs (and_right (ltb 0 r.number) (numbered rs) e))
   where
     some : r.number ≡ 0 → ⊥
     some z = omega (arith, ltb-true 0 r.number (and_left (ltb 0 r.number) (numbered rs) e))
@@ -39,16 +39,16 @@ first-append (r ∷ rs) qs e = by r.applies (first-append rs qs (and_right (ltb 
     by false rest = rest
 
 -- Where no number is given, none is given by the rows in front or by those behind.
-pub first-neither : (rs qs : List Row) → numbered rs ≡ true → first (rs ++ qs) ≡ 0 → (first rs ≡ 0) × (first qs ≡ 0)
-first-neither rs qs n e =
-    cond-case (λ (x : ℕ). x ≡ 0 → (first rs ≡ 0) × (first qs ≡ 0)) (eqb (first rs) 0) (first qs) (first rs)
+pub first_neither : (rs qs : List Row) → numbered rs ≡ true → first (rs ++ qs) ≡ 0 → (first rs ≡ 0) × (first qs ≡ 0)
+first_neither rs qs n e =
+    cond_case (λ (x : ℕ). x ≡ 0 → (first rs ≡ 0) × (first qs ≡ 0)) (eqb (first rs) 0) (first qs) (first rs)
     (λ z f. (eqb-true (first rs) 0 z, f))
     (λ z f. absurd (eqb-false (first rs) 0 z f))
-    (sym (first-append rs qs n) ∙ e)
+    (sym (first_append rs qs n) ∙ e)
 
 -- Rows are tried behind others only where none of those applies: what they say elsewhere is not asked.
-pub first-behind : (rs : List Row) → numbered rs ≡ true → (qs ps : List Row) → (first rs ≡ 0 → qs ≡ ps) → first (rs ++ qs) ≡ first (rs ++ ps)
-first-behind rs n qs ps same = rw (first-append rs qs n, first-append rs ps n) (by (eqb (first rs) 0) refl)
+pub first_behind : (rs : List Row) → numbered rs ≡ true → (qs ps : List Row) → (first rs ≡ 0 → qs ≡ ps) → first (rs ++ qs) ≡ first (rs ++ ps)
+first_behind rs n qs ps same = rw (first_append rs qs n, first_append rs ps n) (by (eqb (first rs) 0) refl)
   where
     by : (b : Bool) → eqb (first rs) 0 ≡ b → cond b (first qs) (first rs) ≡ cond b (first ps) (first rs)
     by true e = ap first (same (eqb-true (first rs) 0 e))
@@ -56,50 +56,50 @@ first-behind rs n qs ps same = rw (first-append rs qs n, first-append rs ps n) (
 
 -- ---- "given exactly when"
 
-pub given-first : (rs : List Row) (k : ℕ) → Given rs k → first rs ≡ k
+pub given_first : (rs : List Row) (k : ℕ) → Given rs k → first rs ≡ k
 unfolding Given first
-given-first [] k g = absurd g
-given-first (r ∷ rs) k (inl g) = rw g.0 g.1
-given-first (r ∷ rs) k (inr g) = rw g.0 (given-first rs k g.1)
+given_first [] k g = absurd g
+given_first (r ∷ rs) k (inl g) = rw g.0 g.1
+given_first (r ∷ rs) k (inr g) = rw g.0 (given_first rs k g.1)
 
-pub first-given : (rs : List Row) (k : ℕ) → first rs ≡ k → k ≢ 0 → Given rs k
+pub first_given : (rs : List Row) (k : ℕ) → first rs ≡ k → k ≢ 0 → Given rs k
 unfolding Given first
-first-given [] k e ne = ne (sym e)
-first-given (r ∷ rs) k e ne = ⊎_elim
+first_given [] k e ne = ne (sym e)
+first_given (r ∷ rs) k e ne = ⊎_elim
     (λ (y : r.applies ≡ true). inl (y, rw y at e))
-    (λ (n : r.applies ≡ false). inr (n, first-given rs k (rw n at e) ne))
-    (true-or-false r.applies)
+    (λ (n : r.applies ≡ false). inr (n, first_given rs k (rw n at e) ne))
+    (true_or_false r.applies)
 
 -- No row of the list has the number k, so that it is not given.
 unfoldable pub without : ℕ → List Row → Bool
 without k [] = true
 without k (r ∷ rs) = not (eqb r.number k) && without k rs
 
-pub first-without : (k : ℕ) (rs : List Row) → k ≢ 0 → without k rs ≡ true → first rs ≢ k
+pub first_without : (k : ℕ) (rs : List Row) → k ≢ 0 → without k rs ≡ true → first rs ≢ k
 unfolding first without
-first-without k [] some none = λ e. some (sym e)
-first-without k (r ∷ rs) some none = cond-case (λ (x : ℕ). x ≢ k) r.applies r.number (first rs)
+first_without k [] some none = λ e. some (sym e)
+first_without k (r ∷ rs) some none = cond_case (λ (x : ℕ). x ≢ k) r.applies r.number (first rs)
     (λ _. eqb-false r.number k (not-true (eqb r.number k) (and_left (not (eqb r.number k)) (without k rs) none)))
-    (λ _. first-without k rs some (and_right (not (eqb r.number k)) (without k rs) none))
+    (λ _. first_without k rs some (and_right (not (eqb r.number k)) (without k rs) none))
 
 -- Where k is given behind rows without it, none of those applies.
-pub behind-without : (k : ℕ) (rs qs : List Row) → k ≢ 0 → numbered rs ≡ true → without k rs ≡ true → first (rs ++ qs) ≡ k → first rs ≡ 0
-behind-without k rs qs some n none e =
-    cond-case (λ (x : ℕ). x ≡ k → first rs ≡ 0) (eqb (first rs) 0) (first qs) (first rs)
+pub behind_without : (k : ℕ) (rs qs : List Row) → k ≢ 0 → numbered rs ≡ true → without k rs ≡ true → first (rs ++ qs) ≡ k → first rs ≡ 0
+behind_without k rs qs some n none e =
+    cond_case (λ (x : ℕ). x ≡ k → first rs ≡ 0) (eqb (first rs) 0) (first qs) (first rs)
     (λ z _. eqb-true (first rs) 0 z)
-    (λ _ f. absurd (first-without k rs some none f))
-    (sym (first-append rs qs n) ∙ e)
+    (λ _ f. absurd (first_without k rs some none f))
+    (sym (first_append rs qs n) ∙ e)
 
 -- A number that one row alone has is given only where that row applies.
-pub first-own : (k : ℕ) (b : Bool) (rs qs : List Row) → k ≢ 0 → numbered rs ≡ true → without k rs ≡ true → without k qs ≡ true
+pub first_own : (k : ℕ) (b : Bool) (rs qs : List Row) → k ≢ 0 → numbered rs ≡ true → without k rs ≡ true → without k qs ≡ true
     → first (rs ++ (row k b ∷ qs)) ≡ k → b ≡ true
-first-own k b rs qs some n front back e = ⊎_elim
+first_own k b rs qs some n front back e = ⊎_elim
     (λ yes. yes)
     (λ (no : b ≡ false).
-    let none = behind-without k rs (row k b ∷ qs) some n front e in
-    let own : first (row k b ∷ qs) ≡ k = rw none at (sym (first-append rs (row k b ∷ qs) n) ∙ e) in
-    absurd (first-without k qs some back (sym (first-later k b qs no) ∙ own)))
-    (true-or-false b)
+    let none = behind_without k rs (row k b ∷ qs) some n front e in
+    let own : first (row k b ∷ qs) ≡ k = rw none at (sym (first_append rs (row k b ∷ qs) n) ∙ e) in
+    absurd (first_without k qs some back (sym (first_later k b qs no) ∙ own)))
+    (true_or_false b)
 
 -- ---- "The lowest number that applies is given."
 

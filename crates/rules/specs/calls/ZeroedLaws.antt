@@ -4,8 +4,8 @@ use Rattle.std.proofs.Common.{◌∙◌, ⊎_elim, arith, length-set, get_or-set
 use Prim.Native.Nat.{ℕ, zero, suc, ◌≤◌, ◌<◌}
 use Rattle.std.proofs.lemmas.List.{get_or-replicate}
 use Rattle.std.proofs.Math.ListN.{get_or-eq_default}
-use Rattle.octets.specs.Split.{lt-or-le, eq-or-ne, cond-case}
-use Rattle.groups.specs.GroupsLaws.{kept-twice, kept-none}
+use Rattle.octets.specs.Split.{lt_or_le, eq_or_ne, cond_case}
+use Rattle.groups.specs.GroupsLaws.{kept_twice, kept_none}
 use Rattle.signal.specs.Alive.{body_of}
 use Rattle.header.specs.Head.{head_of}
 use Rattle.state.specs.declared.Address.{Address}
@@ -16,126 +16,126 @@ use Rattle.answers.specs.declared.Noted.{Noted}
 use Rattle.answers.specs.declared.Setup.{Setup}
 use Rattle.answers.specs.declared.Started.{Started}
 use Rattle.answers.specs.declared.Ticked.{Ticked}
-use Rattle.rules.specs.calls.Admit.{senderAfter, admitted}
+use Rattle.rules.specs.calls.Admit.{sender_after, admitted}
 use Rattle.rules.specs.calls.Alike.{seen, Zeroed}
-use Rattle.rules.specs.calls.Alive.{aliveRows, heardBy, aliveAnswer}
-use Rattle.rules.specs.calls.Clock.{clockRows, aged, agedSenders, ticked, notTicked, clockAnswer}
-use Rattle.rules.specs.calls.AliveLaws.{alive-facts}
-use Rattle.rules.specs.calls.ClockLaws.{aged-later}
+use Rattle.rules.specs.calls.Alive.{alive_rows, heard_by, alive_answer}
+use Rattle.rules.specs.calls.Clock.{clock_rows, aged, aged_senders, ticked, not_ticked, clock_answer}
+use Rattle.rules.specs.calls.AliveLaws.{alive_facts}
+use Rattle.rules.specs.calls.ClockLaws.{aged_later}
 use Rattle.rules.specs.calls.First.{first}
 use Rattle.state.specs.Table.{found}
-use Rattle.rules.specs.calls.Message.{messageNumber, withSender, taken, refused, messageAnswer}
-use Rattle.rules.specs.calls.MessageLaws.{taken-facts}
+use Rattle.rules.specs.calls.Message.{message_number, with_sender, taken, refused, message_answer}
+use Rattle.rules.specs.calls.MessageLaws.{taken_facts}
 use Rattle.state.specs.Limits.{given}
-use Rattle.rules.specs.calls.Setup.{newSenders, setupWithin, setupState, setupAnswer}
-use Rattle.state.specs.State.{sendersMost, noAddress, noSender, newSender, senderAt}
-use Rattle.rules.specs.calls.SeenLaws.{ChangesSeen, changes-zero, changes-aged, changes-heard, changes-after}
+use Rattle.rules.specs.calls.Setup.{new_senders, setup_within, setup_state, setup_answer}
+use Rattle.state.specs.State.{senders_most, no_address, no_sender, new_sender, sender_at}
+use Rattle.rules.specs.calls.SeenLaws.{ChangesSeen, changes_zero, changes_aged, changes_heard, changes_after}
 
 -- In every place of a table what is not looked at is 0.
 abbrev ZeroTable : List Sender → Type 0
-ZeroTable l = (j : ℕ) → seen (get_or l j noSender) ≡ get_or l j noSender
+ZeroTable l = (j : ℕ) → seen (get_or l j no_sender) ≡ get_or l j no_sender
 
 -- From place k on all is 0.
 abbrev ZeroPast : List Sender → ℕ → Type 0
-ZeroPast l k = (j : ℕ) → k ≤ j → get_or l j noSender ≡ noSender
+ZeroPast l k = (j : ℕ) → k ≤ j → get_or l j no_sender ≡ no_sender
 
-zero-new : (a : Address) → seen (newSender a) ≡ newSender a
+zero_new : (a : Address) → seen (new_sender a) ≡ new_sender a
 unfolding seen
-zero-new a = refl
+zero_new a = refl
 
-zero-none : (s : Sender) → s ≡ noSender → seen s ≡ s
-zero-none s e = rw e (zero-new noAddress)
+zero_none : (s : Sender) → s ≡ no_sender → seen s ≡ s
+zero_none s e = rw e (zero_new no_address)
 
-zero-set : (l : List Sender) (i : ℕ) (s : Sender) → seen s ≡ s → ZeroTable l → ZeroTable (set l i s)
-zero-set l i s e z j = ⊎_elim
+zero_set : (l : List Sender) (i : ℕ) (s : Sender) → seen s ≡ s → ZeroTable l → ZeroTable (set l i s)
+zero_set l i s e z j = ⊎_elim
     (λ (q : j ≡ i). rw q (⊎_elim
-    (λ (h : i < length l). rw (get_or-set_same l i s noSender h) e)
-    (λ (h : length l ≤ i). zero-none _ (get_or-eq_default (set l i s) noSender (rw length-set h)))
-    (lt-or-le i (length l))))
-    (λ (n : j ≢ i). rw (get_or-set_other l i j s noSender n) (z j))
-    (eq-or-ne j i)
+    (λ (h : i < length l). rw (get_or-set_same l i s no_sender h) e)
+    (λ (h : length l ≤ i). zero_none _ (get_or-eq_default (set l i s) no_sender (rw length-set h)))
+    (lt_or_le i (length l))))
+    (λ (n : j ≢ i). rw (get_or-set_other l i j s no_sender n) (z j))
+    (eq_or_ne j i)
 
-past-set : (l : List Sender) (k i : ℕ) (s : Sender) → i < k → ZeroPast l k → ZeroPast (set l i s) k
-past-set l k i s h z j q = get_or-set_other l i j s noSender (λ e. omega arith) ∙ z j q
+past_set : (l : List Sender) (k i : ℕ) (s : Sender) → i < k → ZeroPast l k → ZeroPast (set l i s) k
+past_set l k i s h z j q = get_or-set_other l i j s no_sender (λ e. omega arith) ∙ z j q
 
 -- Setup.
 
-past-empty : ZeroPast (replicate sendersMost noSender) 0
-past-empty j h = ⊎_elim
-    (λ (q : j < sendersMost). get_or-replicate sendersMost j noSender noSender q)
-    (λ (q : sendersMost ≤ j). get_or-eq_default (replicate sendersMost noSender) noSender q)
-    (lt-or-le j sendersMost)
+past_empty : ZeroPast (replicate senders_most no_sender) 0
+past_empty j h = ⊎_elim
+    (λ (q : j < senders_most). get_or-replicate senders_most j no_sender no_sender q)
+    (λ (q : senders_most ≤ j). get_or-eq_default (replicate senders_most no_sender) no_sender q)
+    (lt_or_le j senders_most)
 
-zero-senders : (l : List Address) (k : ℕ) → ZeroTable (newSenders l k)
-unfolding newSenders
-zero-senders l zero = λ j. zero-none _ (past-empty j (omega arith))
-zero-senders l (suc k) = zero-set (newSenders l k) k (newSender (given l k)) (zero-new (given l k)) (zero-senders l k)
+zero_senders : (l : List Address) (k : ℕ) → ZeroTable (new_senders l k)
+unfolding new_senders
+zero_senders l zero = λ j. zero_none _ (past_empty j (omega arith))
+zero_senders l (suc k) = zero_set (new_senders l k) k (new_sender (given l k)) (zero_new (given l k)) (zero_senders l k)
 
-past-senders : (l : List Address) (k : ℕ) → ZeroPast (newSenders l k) k
-unfolding newSenders
-past-senders l zero = past-empty
-past-senders l (suc k) = past-set (newSenders l k) (suc k) k (newSender (given l k)) (omega arith) (λ j h. past-senders l k j (omega arith))
+past_senders : (l : List Address) (k : ℕ) → ZeroPast (new_senders l k) k
+unfolding new_senders
+past_senders l zero = past_empty
+past_senders l (suc k) = past_set (new_senders l k) (suc k) k (new_sender (given l k)) (omega arith) (λ j h. past_senders l k j (omega arith))
 
-pub zeroed-setup : (q : Setup) → Zeroed (setupAnswer q).state
-unfolding setupAnswer setupState
-zeroed-setup q = cond-case (λ (x : Started). Zeroed x.state) (setupWithin q) _ _
+pub zeroed_setup : (q : Setup) → Zeroed (setup_answer q).state
+unfolding setup_answer setup_state
+zeroed_setup q = cond_case (λ (x : Started). Zeroed x.state) (setup_within q) _ _
     (λ e. record {
-      groups-zero = kept-twice q.groups;
-      sender-zero = λ k h. zero-senders q.senders q.count k;
-      past-zero = past-senders q.senders q.count;
+      groups_zero = kept_twice q.groups;
+      sender_zero = λ k h. zero_senders q.senders q.count k;
+      past_zero = past_senders q.senders q.count;
     })
-    (λ e. record { groups-zero = kept-none; sender-zero = λ k h. absurd (omega arith); past-zero = past-empty })
+    (λ e. record { groups_zero = kept_none; sender_zero = λ k h. absurd (omega arith); past_zero = past_empty })
 
 -- The calls.
 
 module _ (w : Receiver) (z : Zeroed w) where
   -- Of places past the senders too.
-  pub zeroed-all : (k : ℕ) → seen (senderAt w k) ≡ senderAt w k
-  zeroed-all k = ⊎_elim
-      (λ (h : k < w.count). z.sender-zero k h)
-      (λ (h : w.count ≤ k). zero-none (senderAt w k) (z.past-zero k h))
-      (lt-or-le k w.count)
+  pub zeroed_all : (k : ℕ) → seen (sender_at w k) ≡ sender_at w k
+  zeroed_all k = ⊎_elim
+      (λ (h : k < w.count). z.sender_zero k h)
+      (λ (h : w.count ≤ k). zero_none (sender_at w k) (z.past_zero k h))
+      (lt_or_le k w.count)
 
-  zeroed-changed : (f : Sender → Sender) → ChangesSeen f → (i : ℕ) → i < w.count → Zeroed (withSender w i (f (senderAt w i)))
-  unfolding withSender
-  zeroed-changed f law i h = record {
-    groups-zero = z.groups-zero;
-    sender-zero = λ k q. zero-set w.senders i (f (senderAt w i)) (changes-zero f law (senderAt w i) (zeroed-all i)) zeroed-all k;
-    past-zero = past-set w.senders w.count i (f (senderAt w i)) h z.past-zero;
+  zeroed_changed : (f : Sender → Sender) → ChangesSeen f → (i : ℕ) → i < w.count → Zeroed (with_sender w i (f (sender_at w i)))
+  unfolding with_sender
+  zeroed_changed f law i h = record {
+    groups_zero = z.groups_zero;
+    sender_zero = λ k q. zero_set w.senders i (f (sender_at w i)) (changes_zero f law (sender_at w i) (zeroed_all i)) zeroed_all k;
+    past_zero = past_set w.senders w.count i (f (sender_at w i)) h z.past_zero;
   }
 
-  pub zeroed-message : (room : ℕ) (packet : List ℕ) → Zeroed (messageAnswer w room packet).state
-  unfolding messageAnswer taken refused admitted
-  zeroed-message room packet =
+  pub zeroed_message : (room : ℕ) (packet : List ℕ) → Zeroed (message_answer w room packet).state
+  unfolding message_answer taken refused admitted
+  zeroed_message room packet =
       let h = head_of packet in
-      let k = messageNumber w room packet in
-      cond-case (λ (x : Answer). Zeroed x.state) (eqb k 0) _ _
-      (λ e. zeroed-changed (λ s. senderAfter w.n1 w.clock s h) (changes-after h w.n1 w.clock) (found w h)
-      (taken-facts w room packet (eqb-true k 0 e)).0.registered)
+      let k = message_number w room packet in
+      cond_case (λ (x : Answer). Zeroed x.state) (eqb k 0) _ _
+      (λ e. zeroed_changed (λ s. sender_after w.n1 w.clock s h) (changes_after h w.n1 w.clock) (found w h)
+      (taken_facts w room packet (eqb-true k 0 e)).0.registered)
       (λ e. z)
 
-  pub zeroed-alive : (packet : List ℕ) → Zeroed (aliveAnswer w packet).state
-  unfolding aliveAnswer
-  zeroed-alive packet =
+  pub zeroed_alive : (packet : List ℕ) → Zeroed (alive_answer w packet).state
+  unfolding alive_answer
+  zeroed_alive packet =
       let b = body_of packet in
-      let k = first (aliveRows w packet) in
-      cond-case (λ (x : Noted). Zeroed x.state) (eqb k 0) _ _
-      (λ e. zeroed-changed (λ s. heardBy w.clock s b) (changes-heard w.clock b) (found w (head_of packet))
-      (alive-facts w packet (eqb-true k 0 e)).registered)
+      let k = first (alive_rows w packet) in
+      cond_case (λ (x : Noted). Zeroed x.state) (eqb k 0) _ _
+      (λ e. zeroed_changed (λ s. heard_by w.clock s b) (changes_heard w.clock b) (found w (head_of packet))
+      (alive_facts w packet (eqb-true k 0 e)).registered)
       (λ e. z)
 
-  zero-aged : (t now k : ℕ) → ZeroTable (agedSenders t now w.senders k)
-  unfolding agedSenders
-  zero-aged t now zero = zeroed-all
-  zero-aged t now (suc k) = zero-set (agedSenders t now w.senders k) k (aged t now (senderAt w k))
-      (changes-zero (aged t now) (changes-aged t now) (senderAt w k) (zeroed-all k)) (zero-aged t now k)
+  zero_aged : (t now k : ℕ) → ZeroTable (aged_senders t now w.senders k)
+  unfolding aged_senders
+  zero_aged t now zero = zeroed_all
+  zero_aged t now (suc k) = zero_set (aged_senders t now w.senders k) k (aged t now (sender_at w k))
+      (changes_zero (aged t now) (changes_aged t now) (sender_at w k) (zeroed_all k)) (zero_aged t now k)
 
-  pub zeroed-clock : (now : ℕ) → Zeroed (clockAnswer w now).state
-  unfolding clockAnswer ticked notTicked
-  zeroed-clock now = cond-case (λ (x : Ticked). Zeroed x.state) (eqb (first (clockRows w now)) 0) _ _
+  pub zeroed_clock : (now : ℕ) → Zeroed (clock_answer w now).state
+  unfolding clock_answer ticked not_ticked
+  zeroed_clock now = cond_case (λ (x : Ticked). Zeroed x.state) (eqb (first (clock_rows w now)) 0) _ _
       (λ e. record {
-        groups-zero = z.groups-zero;
-        sender-zero = λ k h. zero-aged w.t now w.count k;
-        past-zero = λ k h. aged-later w.t now w.senders w.count k h ∙ z.past-zero k h;
+        groups_zero = z.groups_zero;
+        sender_zero = λ k h. zero_aged w.t now w.count k;
+        past_zero = λ k h. aged_later w.t now w.senders w.count k h ∙ z.past_zero k h;
       })
       (λ e. z)

@@ -1,58 +1,58 @@
 -- The answers of every listing are those that stand in it. Each law stands in a file with those of its kind, so that a wrong
 -- definition is refused in a file of its own. Assumes nothing.
 use Rattle.std.specs.Prelude.{◌≡◌, true}
-use Rattle.rules.specs.pasts.Listings.{all, Name, the-listing, out_of_range, not-registered, setup-limits, refused-setup, mode-as-given, n1-as-given, lowest-number, message-length, packet-length, piece-length, cut-not-possible, number-check, how-old, unchecked, any_order, twelve-pieces, sixty-four-pieces, two-senders, empty-part, dropped, newcomer-of-one, open-message, came-round, lowest-missing, first-open, sixteen-senders, alive-length, alive-fields, alive-fault, seconds, alive-stamp, dead-by-mode, dead-map, stamp, drop-time, clock-limits, group-setups, group-places, group-tables, group-order, listings}
+use Rattle.rules.specs.pasts.Listings.{all, Name, the_listing, out_of_range, not_registered, setup_limits, refused_setup, mode_as_given, n1_as_given, lowest_number, message_length, packet_length, piece_length, cut_not_possible, number_check, how_old, unchecked, any_order, twelve_pieces, sixty_four_pieces, two_senders, empty_part, dropped, newcomer_of_one, open_message, came_round, lowest_missing, first_open, sixteen_senders, alive_length, alive_fields, alive_fault, seconds, alive_stamp, dead_by_mode, dead_map, stamp, drop_time, clock_limits, group_setups, group_places, group_tables, group_order, listings}
 use Rattle.rules.specs.pasts.listed.Computing.{kept}
-use Rattle.rules.specs.pasts.listed.SetupsLaws.{setup-limits-kept, refused-setup-kept, mode-as-given-kept, n1-as-given-kept}
-use Rattle.rules.specs.pasts.listed.PacketsLaws.{out-of-range-kept, not-registered-kept, lowest-number-kept, message-length-kept, packet-length-kept, piece-length-kept, cut-not-possible-kept}
-use Rattle.rules.specs.pasts.listed.NumbersLaws.{number-check-kept, how-old-kept, unchecked-kept}
-use Rattle.rules.specs.pasts.listed.JoinsLaws.{the-listing-kept, any-order-kept, twelve-pieces-kept, two-senders-kept, empty-part-kept, lowest-missing-kept, first-open-kept}
-use Rattle.rules.specs.pasts.listed.DropsLaws.{dropped-kept, newcomer-of-one-kept, open-message-kept, came-round-kept}
-use Rattle.rules.specs.pasts.listed.SignalsLaws.{sixteen-senders-kept, alive-length-kept, alive-fields-kept, alive-fault-kept, seconds-kept, alive-stamp-kept, dead-by-mode-kept, dead-map-kept}
-use Rattle.rules.specs.pasts.listed.ClocksLaws.{stamp-kept, drop-time-kept, clock-limits-kept}
-use Rattle.rules.specs.pasts.listed.GroupsLaws.{group-setups-kept, group-places-kept, group-tables-kept, group-order-kept}
-use Rattle.rules.specs.pasts.listed.SixtyFourLaws.{sixty-four-pieces-kept}
+use Rattle.rules.specs.pasts.listed.SetupsLaws.{setup_limits_kept, refused_setup_kept, mode_as_given_kept, n1_as_given_kept}
+use Rattle.rules.specs.pasts.listed.PacketsLaws.{out_of_range_kept, not_registered_kept, lowest_number_kept, message_length_kept, packet_length_kept, piece_length_kept, cut_not_possible_kept}
+use Rattle.rules.specs.pasts.listed.NumbersLaws.{number_check_kept, how_old_kept, unchecked_kept}
+use Rattle.rules.specs.pasts.listed.JoinsLaws.{the_listing_kept, any_order_kept, twelve_pieces_kept, two_senders_kept, empty_part_kept, lowest_missing_kept, first_open_kept}
+use Rattle.rules.specs.pasts.listed.DropsLaws.{dropped_kept, newcomer_of_one_kept, open_message_kept, came_round_kept}
+use Rattle.rules.specs.pasts.listed.SignalsLaws.{sixteen_senders_kept, alive_length_kept, alive_fields_kept, alive_fault_kept, seconds_kept, alive_stamp_kept, dead_by_mode_kept, dead_map_kept}
+use Rattle.rules.specs.pasts.listed.ClocksLaws.{stamp_kept, drop_time_kept, clock_limits_kept}
+use Rattle.rules.specs.pasts.listed.GroupsLaws.{group_setups_kept, group_places_kept, group_tables_kept, group_order_kept}
+use Rattle.rules.specs.pasts.listed.SixtyFourLaws.{sixty_four_pieces_kept}
 
-pub every-listing : (x : Name) → all (listings x) ≡ true
+pub every_listing : (x : Name) → all (listings x) ≡ true
 unfolding kept
-every-listing the-listing = the-listing-kept
-every-listing out_of_range = out-of-range-kept
-every-listing not-registered = not-registered-kept
-every-listing setup-limits = setup-limits-kept
-every-listing refused-setup = refused-setup-kept
-every-listing mode-as-given = mode-as-given-kept
-every-listing n1-as-given = n1-as-given-kept
-every-listing lowest-number = lowest-number-kept
-every-listing message-length = message-length-kept
-every-listing packet-length = packet-length-kept
-every-listing piece-length = piece-length-kept
-every-listing cut-not-possible = cut-not-possible-kept
-every-listing number-check = number-check-kept
-every-listing how-old = how-old-kept
-every-listing unchecked = unchecked-kept
-every-listing any_order = any-order-kept
-every-listing twelve-pieces = twelve-pieces-kept
-every-listing sixty-four-pieces = sixty-four-pieces-kept
-every-listing two-senders = two-senders-kept
-every-listing empty-part = empty-part-kept
-every-listing dropped = dropped-kept
-every-listing newcomer-of-one = newcomer-of-one-kept
-every-listing open-message = open-message-kept
-every-listing came-round = came-round-kept
-every-listing lowest-missing = lowest-missing-kept
-every-listing first-open = first-open-kept
-every-listing sixteen-senders = sixteen-senders-kept
-every-listing alive-length = alive-length-kept
-every-listing alive-fields = alive-fields-kept
-every-listing alive-fault = alive-fault-kept
-every-listing seconds = seconds-kept
-every-listing alive-stamp = alive-stamp-kept
-every-listing dead-by-mode = dead-by-mode-kept
-every-listing dead-map = dead-map-kept
-every-listing stamp = stamp-kept
-every-listing drop-time = drop-time-kept
-every-listing clock-limits = clock-limits-kept
-every-listing group-setups = group-setups-kept
-every-listing group-places = group-places-kept
-every-listing group-tables = group-tables-kept
-every-listing group-order = group-order-kept
+every_listing the_listing = the_listing_kept
+every_listing out_of_range = out_of_range_kept
+every_listing not_registered = not_registered_kept
+every_listing setup_limits = setup_limits_kept
+every_listing refused_setup = refused_setup_kept
+every_listing mode_as_given = mode_as_given_kept
+every_listing n1_as_given = n1_as_given_kept
+every_listing lowest_number = lowest_number_kept
+every_listing message_length = message_length_kept
+every_listing packet_length = packet_length_kept
+every_listing piece_length = piece_length_kept
+every_listing cut_not_possible = cut_not_possible_kept
+every_listing number_check = number_check_kept
+every_listing how_old = how_old_kept
+every_listing unchecked = unchecked_kept
+every_listing any_order = any_order_kept
+every_listing twelve_pieces = twelve_pieces_kept
+every_listing sixty_four_pieces = sixty_four_pieces_kept
+every_listing two_senders = two_senders_kept
+every_listing empty_part = empty_part_kept
+every_listing dropped = dropped_kept
+every_listing newcomer_of_one = newcomer_of_one_kept
+every_listing open_message = open_message_kept
+every_listing came_round = came_round_kept
+every_listing lowest_missing = lowest_missing_kept
+every_listing first_open = first_open_kept
+every_listing sixteen_senders = sixteen_senders_kept
+every_listing alive_length = alive_length_kept
+every_listing alive_fields = alive_fields_kept
+every_listing alive_fault = alive_fault_kept
+every_listing seconds = seconds_kept
+every_listing alive_stamp = alive_stamp_kept
+every_listing dead_by_mode = dead_by_mode_kept
+every_listing dead_map = dead_map_kept
+every_listing stamp = stamp_kept
+every_listing drop_time = drop_time_kept
+every_listing clock_limits = clock_limits_kept
+every_listing group_setups = group_setups_kept
+every_listing group_places = group_places_kept
+every_listing group_tables = group_tables_kept
+every_listing group_order = group_order_kept

@@ -1,7 +1,7 @@
 -- Each part is that of the definition. Assumes nothing.
 use mathlib.Core.Path.{◌≡◌, sym, ◌∙◌}
 use mathlib.Core.Bool.{true, false}
-use Rattle.rules.specs.calls.Admit.{admitted, fills, heldAfter, senderAfter}
+use Rattle.rules.specs.calls.Admit.{admitted, fills, held_after, sender_after}
 use borrow.Author.Rules.{rules}
 use Rattle.sender.proofs.admitted_by.Statement.{statement}
 use Rattle.sender.proofs.admitted_by.Tie as tie
@@ -22,7 +22,7 @@ delivered-requires : tie.Need-delivered-requires
 delivered-requires c κs = search rules
 
 returns : tie.Need-returns
-unfolding admitted heldAfter senderAfter
+unfolding admitted held_after sender_after
 returns c =
     let full = c.before.before in
     let map = full.before.before.before in
@@ -37,7 +37,7 @@ opened-requires : tie.Need-opened-requires
 opened-requires c κs = search rules
 
 returns-2 : tie.Need-returns-2
-unfolding admitted heldAfter senderAfter
+unfolding admitted held_after sender_after
 returns-2 c =
     let partial = c.before.before in
     let map = partial.before.before.before in

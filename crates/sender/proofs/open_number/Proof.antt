@@ -2,7 +2,7 @@
 use mathlib.Core.Path.{sym, ◌∙◌}
 use mathlib.Core.Bool.{◌&&◌}
 use Rattle.rules.specs.calls.First.{first}
-use Rattle.rules.specs.calls.Admit.{sameVersion, rejoins}
+use Rattle.rules.specs.calls.Admit.{same_version, rejoins}
 use borrow.Author.Rules.{rules}
 use borrow.Author.Tests.{eq-eqb, ne_eqb, not-true, not-false}
 use Rattle.sender.proofs.open_number.Statement.{statement}
@@ -12,7 +12,7 @@ returns : tie.Need-returns
 unfolding first rejoins
 returns c =
     let a = c.before.before.before.before.before.before.before.args in
-    simp (not-true (a.s.«open» && sameVersion a.s a.h) c.if1.true)
+    simp (not-true (a.s.«open» && same_version a.s a.h) c.if1.true)
 
 newer-requires : tie.Need-newer-requires
 newer-requires c κs = search rules
@@ -22,7 +22,7 @@ unfolding first rejoins
 returns-2 c =
     let head = c.before.before in
     let a = head.before.before.before.before.before.before.before.args in
-    simp (not-false (a.s.«open» && sameVersion a.s a.h) head.if1.false, sym c.before.newer.ensures ∙ c.if2.true)
+    simp (not-false (a.s.«open» && same_version a.s a.h) head.if1.false, sym c.before.newer.ensures ∙ c.if2.true)
 
 returns-3 : tie.Need-returns-3
 unfolding first rejoins
@@ -30,7 +30,7 @@ returns-3 c =
     let older = c.before.before.before in
     let head = older.before.before in
     let a = head.before.before.before.before.before.before.before.args in
-    simp (not-false (a.s.«open» && sameVersion a.s a.h) head.if1.false, sym older.before.newer.ensures ∙ older.if2.false, ne_eqb _ _ c.if3.true)
+    simp (not-false (a.s.«open» && same_version a.s a.h) head.if1.false, sym older.before.newer.ensures ∙ older.if2.false, ne_eqb _ _ c.if3.true)
 
 same-cut-requires : tie.Need-same-cut-requires
 same-cut-requires c κs = search rules
@@ -43,10 +43,10 @@ returns-4 c =
     let head = older.before.before in
     let a = head.before.before.before.before.before.before.before.args in
     simp (
-      not-false (a.s.«open» && sameVersion a.s a.h) head.if1.false,
+      not-false (a.s.«open» && same_version a.s a.h) head.if1.false,
       sym older.before.newer.ensures ∙ older.if2.false,
       eq-eqb _ _ own.if3.false,
-      sym c.before.same-cut.ensures ∙ not-true _ c.if4.true,
+      sym c.before.same_cut.ensures ∙ not-true _ c.if4.true,
     )
 
 holds-requires : tie.Need-holds-requires
@@ -61,10 +61,10 @@ returns-5 c =
     let head = older.before.before in
     let a = head.before.before.before.before.before.before.before.args in
     simp (
-      not-false (a.s.«open» && sameVersion a.s a.h) head.if1.false,
+      not-false (a.s.«open» && same_version a.s a.h) head.if1.false,
       sym older.before.newer.ensures ∙ older.if2.false,
       eq-eqb _ _ own.if3.false,
-      sym cut.before.same-cut.ensures ∙ not-false _ cut.if4.false,
+      sym cut.before.same_cut_lem.ensures ∙ not-false _ cut.if4.false,
       sym c.before.holds.ensures ∙ c.if5.true,
     )
 
@@ -77,10 +77,10 @@ returns-6 c =
     let head = older.before.before in
     let a = head.before.before.before.before.before.before.before.args in
     simp (
-      not-false (a.s.«open» && sameVersion a.s a.h) head.if1.false,
+      not-false (a.s.«open» && same_version a.s a.h) head.if1.false,
       sym older.before.newer.ensures ∙ older.if2.false,
       eq-eqb _ _ own.if3.false,
-      sym cut.before.same-cut.ensures ∙ not-false _ cut.if4.false,
+      sym cut.before.same_cut_lem.ensures ∙ not-false _ cut.if4.false,
       sym c.before.holds.ensures ∙ c.if5.false,
     )
 

@@ -10,7 +10,7 @@ with-message-requires : tie.Need-with-message-requires
 with-message-requires c κs = search rules
 
 returns : tie.Need-returns
-returns c = rw (c.with-message.ensures, c.before.message-of.ensures)
+returns c = rw (c.with-message.ensures, c.before.message_of.ensures)
 
 pub opened-spec : {M : Type 1} → statement M
 opened-spec = tie.close (tie.spec message-of-requires with-message-requires returns)

@@ -1,5 +1,5 @@
 -- Each test is that of the definition. Assumes nothing.
-use Rattle.rules.specs.calls.Admit.{sameCut}
+use Rattle.rules.specs.calls.Admit.{same_cut}
 use borrow.Author.Rules.{rules}
 use Rattle.sender.proofs.same_cut.Statement.{statement}
 use Rattle.sender.proofs.same_cut.Tie as tie
@@ -17,8 +17,8 @@ unit-requires : tie.Need-unit-requires
 unit-requires c κs = search rules
 
 returns : tie.Need-returns
-unfolding sameCut
-returns c = rw (c.unit.ensures, c.before.before.before.before.message-length.ensures)
+unfolding same_cut
+returns c = rw (c.unit.ensures, c.before.before.before.before.message_length.ensures)
 
 pub same-cut-spec : {M : Type 1} → statement M
 same-cut-spec =

@@ -5,17 +5,17 @@ use native.Mathlib.Omega.{arith}
 use native.Mathlib.Numerals.{add-one}
 use borrow.Author.Rules.{rules}
 use lib.ListN.{length, length-set}
-use Rattle.octets.specs.Split.{mapped-length}
-use Rattle.state.specs.State.{sendersMost}
-use Rattle.rules.specs.calls.Setup.{newSenders}
+use Rattle.octets.specs.Split.{mapped_length}
+use Rattle.state.specs.State.{senders_most}
+use Rattle.rules.specs.calls.Setup.{new_senders}
 use Rattle.setup.specs.private.Settled.{seated}
-use Rattle.setup.specs.private.SettledLaws.{settled-few, seated-none, seated-all}
+use Rattle.setup.specs.private.SettledLaws.{settled_few, seated_none, seated_all}
 use Rattle.setup.proofs.new_state.Statement.{statement}
 use Rattle.setup.proofs.new_state.Tie as tie
 
 abbrev invariant-loop : tie.invariant-loop
 invariant-loop within state₀ count addresses i₀ state i =
-    (i ≤ count) × (count ≤ sendersMost) × (length state.senders ≡ sendersMost) × (state ≡ seated state₀ addresses i)
+    (i ≤ count) × (count ≤ senders_most) × (length state.senders ≡ senders_most) × (state ≡ seated state₀ addresses i)
 
 abbrev decreases-loop : tie.decreases-loop
 decreases-loop within state₀ count addresses i₀ state i = count - i
@@ -27,7 +27,7 @@ loop-holds : tie.Need-loop-init invariant-loop decreases-loop
 loop-holds c =
     let a = c.before.before.args in
     let e = c.before.settled.ensures in
-    (search rules, rw e (settled-few a.q a.within c.before.before.requires), search (rules, mapped-length), rw e (seated-none a.q a.within))
+    (search rules, rw e (settled_few a.q a.within c.before.before.requires), search (rules, mapped_length), rw e (seated_none a.q a.within))
 
 cast-a : tie.Need-overflow-cast-a invariant-loop decreases-loop
 cast-a c = omega arith
@@ -57,7 +57,7 @@ loop-less : tie.Need-loop-smaller invariant-loop decreases-loop
 loop-less c = omega arith
 
 loop-again : tie.Need-loop-preserved invariant-loop decreases-loop
-unfolding newSenders
+unfolding new_senders
 loop-again c =
     let l = c.before.before.before.loop in
     (omega arith, omega arith, simp length-set l.invariant.2, rw (add-one l.i, l.invariant.3, c.new.ensures))
@@ -68,7 +68,7 @@ returns c =
     let w = c.before.before.before in
     let a = w.before.args in
     let all : l.i ≡ w.settled.result.count = omega arith in
-    l.invariant.3 ∙ rw (all, w.settled.ensures) (seated-all a.q a.within)
+    l.invariant.3 ∙ rw (all, w.settled.ensures) (seated_all a.q a.within)
 
 pub new-state-spec : {M : Type 1} → statement M
 new-state-spec =

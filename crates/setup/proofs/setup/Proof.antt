@@ -2,8 +2,8 @@
 use mathlib.Core.Path.{sym, ◌∙◌}
 use borrow.Author.Rules.{rules}
 use borrow.Author.Tests.{not-true, not-false}
-use Rattle.rules.specs.calls.Setup.{setupAnswer}
-use Rattle.rules.specs.calls.SetupLaws.{setup-count}
+use Rattle.rules.specs.calls.Setup.{setup_answer}
+use Rattle.rules.specs.calls.SetupLaws.{setup_count}
 use Rattle.setup.proofs.setup.Statement.{statement}
 use Rattle.setup.proofs.setup.Tie as tie
 
@@ -11,17 +11,17 @@ setup-within-requires : tie.Need-setup-within-requires
 setup-within-requires c κs = search rules
 
 new-state-requires : tie.Need-new-state-requires
-new-state-requires c κs within = setup-count c.before.args.q (sym c.setup-within.ensures ∙ within)
+new-state-requires c κs within = setup_count c.before.args.q (sym c.setup-within.ensures ∙ within)
 
 returns : tie.Need-returns
-unfolding setupAnswer
+unfolding setup_answer
 returns c =
     let judged = c.before.before in
     let no = not-true _ c.if1.true in
     rw (c.before.new-state.ensures, no, sym judged.setup-within.ensures ∙ no)
 
 returns-2 : tie.Need-returns-2
-unfolding setupAnswer
+unfolding setup_answer
 returns-2 c =
     let judged = c.before.before in
     let yes = not-false _ c.if1.false in

@@ -1,5 +1,5 @@
 -- Each test is that of the definition. Assumes nothing.
-use Rattle.rules.specs.calls.Setup.{setupWithin}
+use Rattle.rules.specs.calls.Setup.{setup_within}
 use borrow.Author.Rules.{rules}
 use Rattle.setup.proofs.setup_within.Statement.{statement}
 use Rattle.setup.proofs.setup_within.Tie as tie
@@ -14,7 +14,7 @@ all-within-requires : tie.Need-all-within-requires
 all-within-requires c κs = search rules
 
 returns : tie.Need-returns
-unfolding setupWithin
+unfolding setup_within
 returns c = rw (c.all-within.ensures, c.before.before.before.within.ensures)
 
 pub setup-within-spec : {M : Type 1} → statement M

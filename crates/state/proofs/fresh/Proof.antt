@@ -3,20 +3,20 @@ use Prim.Native.Nat.{◌≤◌, ◌-◌}
 use mathlib.Core.Path.{◌≡◌, refl}
 use native.Mathlib.Omega.{arith}
 use native.Mathlib.Numerals.{add-one}
-use Rattle.state.specs.Key.{newKey}
-use Rattle.state.specs.State.{sendersMost}
+use Rattle.state.specs.Key.{new_key}
+use Rattle.state.specs.State.{senders_most}
 use borrow.Author.Rules.{rules}
 use Rattle.state.proofs.fresh.Statement.{statement}
 use Rattle.state.proofs.fresh.Tie as tie
 
 abbrev invariant-loop : tie.invariant-loop
-invariant-loop seen key new₀ j₀ new j = (j ≤ sendersMost) × (new ≡ newKey seen j key)
+invariant-loop seen key new₀ j₀ new j = (j ≤ senders_most) × (new ≡ new_key seen j key)
 
 abbrev decreases-loop : tie.decreases-loop
-decreases-loop seen key new₀ j₀ new j = sendersMost - j
+decreases-loop seen key new₀ j₀ new j = senders_most - j
 
 loop-holds : tie.Need-loop-init invariant-loop decreases-loop
-unfolding newKey
+unfolding new_key
 loop-holds c = (search rules, refl)
 
 mul-new : tie.Need-overflow-mul-new invariant-loop decreases-loop
@@ -32,7 +32,7 @@ loop-less : tie.Need-loop-smaller invariant-loop decreases-loop
 loop-less c = omega arith
 
 loop-again : tie.Need-loop-preserved invariant-loop decreases-loop
-unfolding newKey
+unfolding new_key
 loop-again c =
     let l = c.before.before.loop in
     (omega arith, rw (add-one l.j, l.invariant.1))
@@ -40,7 +40,7 @@ loop-again c =
 returns : tie.Need-returns invariant-loop decreases-loop
 returns c =
     let l = c.before.loop in
-    let e : l.j ≡ sendersMost = omega arith in
+    let e : l.j ≡ senders_most = omega arith in
     rw e at l.invariant.1
 
 pub fresh-spec : {M : Type 1} → statement M

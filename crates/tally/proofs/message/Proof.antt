@@ -55,7 +55,7 @@ use denote.Exit.{yes}
 use Rattle.state.specs.declared.Receiver.{Receiver}
 use Rattle.answers.specs.declared.Answer.{Answer}
 use Rattle.answers.specs.declared.Outcome.{Outcome}
-use Rattle.rules.specs.calls.Message.{messageAnswer, messageStorage}
+use Rattle.rules.specs.calls.Message.{message_answer, message_storage}
 use Rattle.tally.specs.Tally.{counted}
 use Rattle.tally.specs.declared.Tally.{Tally}
 use Rattle.state.specs.contracts.Receiver as R
@@ -67,13 +67,13 @@ use Rattle.answers.proofs.Outcome.TheLaws as O'
 use Rattle.tally.specs.contracts.Tally as T
 use Rattle.tally.proofs.Tally.TheLaws as T'
 use Rattle.receiver.specs.contracts.message.message as call
-use Rattle.receiver.proofs.message.message.Symbol as call-def
+use Rattle.receiver.proofs.message.message.Symbol as call_def
 use Rattle.receiver.proofs.message.message.Symbol.{name as #receiver·message·message}
-use Rattle.receiver.proofs.message.message.Met as call-thm
+use Rattle.receiver.proofs.message.message.Met as call_thm
 use Rattle.tally.specs.contracts.counted as count
-use Rattle.tally.proofs.counted.Symbol as count-def
+use Rattle.tally.proofs.counted.Symbol as count_def
 use Rattle.tally.proofs.counted.Symbol.{name as #tally·counted}
-use Rattle.tally.proofs.counted.Met as count-thm
+use Rattle.tally.proofs.counted.Met as count_thm
 use Rattle.tally.specs.contracts.message.Key.{name as #tally·message}
 use Rattle.tally.specs.contracts.message as thin
 use Rattle.tally.proofs.message.Statement as stated
@@ -130,21 +130,21 @@ record Front (r : Answer) (v : Val) : Type 0 where
   front : Val
   behind : Vals
   joined : v ≡ vstruct (vcons front behind)
-  is-outcome : Is O.the_row r.outcome (front ∷ [])
+  is_outcome : Is O.the_row r.outcome (front ∷ [])
 
 front_of : (r : Answer) (v : Val) → Is A.the_row r (v ∷ []) → Front r v
 front_of r v is = record {
   front = EL.val O.the_type O'.the_laws r.outcome;
   behind = _;
   joined = ap only (LL.tells A.the_type A'.the_laws r (v ∷ []) is);
-  is-outcome = (LL.owed A.the_type A'.the_laws r (v ∷ []) is).0;
+  is_outcome = (LL.owed A.the_type A'.the_laws r (v ∷ []) is).0;
 }
 
-front-field : field_of A'.mir 0 ≡ option.some (O'.mir, 0)
-front-field = refl
+front_field : field_of A'.mir 0 ≡ option.some (O'.mir, 0)
+front_field = refl
 
-abbrev tally-vals : Tally → List Val
-tally-vals = LL.vals T.the_type T'.the_laws
+abbrev tally_vals : Tally → List Val
+tally_vals = LL.vals T.the_type T'.the_laws
 
 module _ {M : Type 1} {𝓤 : Ura M} (𝓛 : Logic 𝓤) where
   -- In a local whose type has an outcome's in front, the outcome can be looked at.
@@ -157,27 +157,27 @@ module _ {M : Type 1} {𝓤 : Ura M} (𝓛 : Logic 𝓤) where
   first_part : (name : Sym) (fields : Tys) → field_at zero fields 0 ≡ option.some (O'.mir, 0) → HasFront (ty_struct name fields)
   first_part name fields e l v vs = sub ! 0 e (whole !)
 
-  front-part : HasFront A'.mir
-  front-part = first_part _ _ refl
+  front_part : HasFront A'.mir
+  front_part = first_part _ _ refl
 
   -- three clauses of a contract, which own nothing
-  three-facts : {φ ψ χ : Type 0} → φ → ψ → χ → ent 𝓤 (emp 𝓤) (sep 𝓤 (fact 𝓤 φ) (sep 𝓤 (fact 𝓤 ψ) (fact 𝓤 χ)))
-  three-facts {φ} {ψ} {χ} a b c =
+  three_facts : {φ ψ χ : Type 0} → φ → ψ → χ → ent 𝓤 (emp 𝓤) (sep 𝓤 (fact 𝓤 φ) (sep 𝓤 (fact 𝓤 ψ) (fact 𝓤 χ)))
+  three_facts {φ} {ψ} {χ} a b c =
       qed 𝓛 [] ∵ use0 𝓛 (raw (fact 𝓤 φ)) (fact_i 𝓤 φ (emp 𝓤) a) $ frame ! $ use0 𝓛 (raw (fact 𝓤 ψ)) (fact_i 𝓤 ψ (emp 𝓤) b) $ frame ! $
       use0 𝓛 (raw (fact 𝓤 χ)) (fact_i 𝓤 χ (emp 𝓤) c) $ done !
 
   -- what a store asks of a value
-  answer-fits : (r : Answer) (v : Val) → Is A.the_row r (v ∷ []) → Holds (has_ty A'.mir v) × WT v
-  answer-fits r v is = ((LL.lawful A.the_type A'.the_laws 𝓛).typed r (v ∷ []) is).0
+  answer_fits : (r : Answer) (v : Val) → Is A.the_row r (v ∷ []) → Holds (has_ty A'.mir v) × WT v
+  answer_fits r v is = ((LL.lawful A.the_type A'.the_laws 𝓛).typed r (v ∷ []) is).0
 
-  state-fits : (w : Receiver) (v : Val) → Is R.the_row w (v ∷ []) → Holds (has_ty R'.mir v) × WT v
-  state-fits w v is = ((LL.lawful R.the_type R'.the_laws 𝓛).typed w (v ∷ []) is).0
+  state_fits : (w : Receiver) (v : Val) → Is R.the_row w (v ∷ []) → Holds (has_ty R'.mir v) × WT v
+  state_fits w v is = ((LL.lawful R.the_type R'.the_laws 𝓛).typed w (v ∷ []) is).0
 
   outcome_fits : (k : Outcome) (v : Val) → Is O.the_row k (v ∷ []) → Holds (has_ty O'.mir v) × WT v
   outcome_fits k v is = ((EL.lawful O.the_type O'.the_laws 𝓛 tt).typed k (v ∷ []) is).0
 
-  tally-fits : (s : Tally) (v : Val) → Is T.the_row s (v ∷ []) → Holds (has_ty T'.mir v) × WT v
-  tally-fits s v is = ((LL.lawful T.the_type T'.the_laws 𝓛).typed s (v ∷ []) is).0
+  tally_fits : (s : Tally) (v : Val) → Is T.the_row s (v ∷ []) → Holds (has_ty T'.mir v) × WT v
+  tally_fits s v is = ((LL.lawful T.the_type T'.the_laws 𝓛).typed s (v ∷ []) is).0
 
 -- ---- the contracts of the two functions that are called
 
@@ -198,14 +198,14 @@ module _ {M : Type 1} {𝓤 : Ura M} (𝓛 : Logic 𝓤) (at_mem : Memory → SP
   abbrev lent : MutBor Tally × (Receiver × (MutBor (List ℕ) × (MutBor (List ℕ) × Unit {0})))
   lent = (record { ref_ptr = (b, o); ghost_name = γ; now = t }, (w, (x, (p, tt))))
 
-  abbrev x-val : Val
-  x-val = slice_val x.ref_ptr (length x.now)
+  abbrev x_val : Val
+  x_val = slice_val x.ref_ptr (length x.now)
 
-  abbrev p-val : Val
-  p-val = slice_val p.ref_ptr (length p.now)
+  abbrev p_val : Val
+  p_val = slice_val p.ref_ptr (length p.now)
 
   abbrev at : List Val × (List Val × (List Val × (List Val × Unit {0})))
-  at = (vptr b o ∷ [], (w-val ∷ [], (x-val ∷ [], (p-val ∷ [], tt))))
+  at = (vptr b o ∷ [], (w-val ∷ [], (x_val ∷ [], (p_val ∷ [], tt))))
 
   -- ---- the message call: it takes the tokens of storage and packet, and all that was lent but the record
 
@@ -213,34 +213,34 @@ module _ {M : Type 1} {𝓤 : Ura M} (𝓛 : Logic 𝓤) (at_mem : Memory → SP
   Tokens = ‵ (flft κ₁ q₁) ⊛ ‵ (flft κ₂ q₂) ⊛ ‵ ftrue
 
   abbrev Rest : Fml
-  Rest = owns (R.the_row ∷ MutSlice (named 1) κ₁ u8 ∷ ShrSlice (named 2) κ₂ u8 ∷ []) (w, (x, (p, tt))) (w-val ∷ [], (x-val ∷ [], (p-val ∷ [], tt)))
+  Rest = owns (R.the_row ∷ MutSlice (named 1) κ₁ u8 ∷ ShrSlice (named 2) κ₂ u8 ∷ []) (w, (x, (p, tt))) (w-val ∷ [], (x_val ∷ [], (p_val ∷ [], tt)))
 
-  abbrev to-call : (Call 𝓛 at_mem run).Ghost
-  to-call = (((κ₁, (κ₂, tt)), (q₁, (q₂, tt)), tt, (w, (x, (p, tt))), (w-val ∷ [], (x-val ∷ [], (p-val ∷ [], tt)))), tt)
+  abbrev to_call : (Call 𝓛 at_mem run).Ghost
+  to_call = (((κ₁, (κ₂, tt)), (q₁, (q₂, tt)), tt, (w, (x, (p, tt))), (w-val ∷ [], (x_val ∷ [], (p_val ∷ [], tt)))), tt)
 
-  goes-call : ent 𝓤 (⋆ 𝓛 (Tokens ∷ ‵ Rest ∷ [])) ((Call 𝓛 at_mem run).pre to-call)
-  goes-call = qed 𝓛 (Tokens ∷ ‵ Rest ∷ []) ∵ join ! $ frame ! $ done !
+  goes_call : ent 𝓤 (⋆ 𝓛 (Tokens ∷ ‵ Rest ∷ [])) ((Call 𝓛 at_mem run).pre to_call)
+  goes_call = qed 𝓛 (Tokens ∷ ‵ Rest ∷ []) ∵ join ! $ frame ! $ done !
 
   -- ---- the counting: it takes the record, and an outcome, which owns only facts and so is had for nothing
 
-  abbrev to-count : Outcome → Val → (Count 𝓛 at_mem run).Ghost
-  to-count k v = ((tt, tt, tt, (t, (k, tt)), (tally-vals t, (v ∷ [], tt))), tt)
+  abbrev to_count : Outcome → Val → (Count 𝓛 at_mem run).Ghost
+  to_count k v = ((tt, tt, tt, (t, (k, tt)), (tally_vals t, (v ∷ [], tt))), tt)
 
-  goes-count : (k : Outcome) (v : Val) → Is O.the_row k (v ∷ []) → ent 𝓤 (sem 𝓛 ((T.the_row).own_val t (tally-vals t))) ((Count 𝓛 at_mem run).pre (to-count k v))
-  goes-count k v is =
-      qed 𝓛 (‵ ((T.the_row).own_val t (tally-vals t)) ∷ []) ∵ nothing ! $ owned ! O.the_row (Is O.the_row) (EL.makes O.the_type O'.the_plain 𝓛) k _ is $
+  goes_count : (k : Outcome) (v : Val) → Is O.the_row k (v ∷ []) → ent 𝓤 (sem 𝓛 ((T.the_row).own_val t (tally_vals t))) ((Count 𝓛 at_mem run).pre (to_count k v))
+  goes_count k v is =
+      qed 𝓛 (‵ ((T.the_row).own_val t (tally_vals t)) ∷ []) ∵ nothing ! $ owned ! O.the_row (Is O.the_row) (EL.makes O.the_type O'.the_plain 𝓛) k _ is $
       fjoin ! $ move ! (1 ∷ 0 ∷ []) $ fjoin ! $ nothing ! $ join ! $ frame ! $ done !
 
-  count-said : (k : Outcome) (s : Tally) → ent 𝓤 (ensured 𝓛 count.ended (count.clauses 𝓛 at_mem run) tt (t, (k, tt)) tt s) (fact 𝓤 (s ≡ counted t k))
-  count-said k s = ex_e 𝓤 _ (λ ws. snd∗ 𝓤 (sem 𝓛 (lasts count.ended tt (t, (k, tt)) ws)) (fact 𝓤 (s ≡ counted t k)))
+  count_said : (k : Outcome) (s : Tally) → ent 𝓤 (ensured 𝓛 count.ended (count.clauses 𝓛 at_mem run) tt (t, (k, tt)) tt s) (fact 𝓤 (s ≡ counted t k))
+  count_said k s = ex_e 𝓤 _ (λ ws. snd∗ 𝓤 (sem 𝓛 (lasts count.ended tt (t, (k, tt)) ws)) (fact 𝓤 (s ≡ counted t k)))
 
   -- ---- the exit: answer r at its machine value v, record s, storage zs, and the three clauses of the contract
 
   abbrev Answered : Answer → Type 0
-  Answered r = r ≡ messageAnswer w (length x.now) p.now
+  Answered r = r ≡ message_answer w (length x.now) p.now
 
   abbrev Stored : List ℕ → Type 0
-  Stored zs = zs ≡ messageStorage w x.now p.now
+  Stored zs = zs ≡ message_storage w x.now p.now
 
   abbrev Tallied : Answer → Tally → Type 0
   Tallied r s = s ≡ counted t r.outcome
@@ -250,7 +250,7 @@ module _ {M : Type 1} {𝓤 : Ura M} (𝓛 : Logic 𝓤) (at_mem : Memory → SP
   Ensured r s zs = (thin.clauses 𝓛 at_mem run (κ, (κ₁, (κ₂, tt))) lent).ensures tt r (at_exit thin.ended (κ, (κ₁, (κ₂, tt))) lent (s, (tt, (zs, (tt, tt)))))
 
   ensures : (r : Answer) (s : Tally) (zs : List ℕ) → Answered r → Stored zs → Tallied r s → ent 𝓤 (emp 𝓤) (Ensured r s zs)
-  ensures r s zs answered stored tallied = three-facts 𝓛 answered stored tallied
+  ensures r s zs answered stored tallied = three_facts 𝓛 answered stored tallied
 
   abbrev Post : Val → SProp 𝓤
   Post = (walk_of 𝓛 thin.ended stayed (thin.clauses 𝓛 at_mem run)).post (((κ, (κ₁, (κ₂, tt))), (q, (q₁, (q₂, tt))), tt, lent, at), tt)
@@ -275,19 +275,19 @@ module _ {M : Type 1} {𝓤 : Ura M} (𝓛 : Logic 𝓤) (at_mem : Memory → SP
   -- ---- the walk. Brackets say what stands where: a local _i, and right behind it what frees it. The statement stands above its steps.
 
   -- The state's type, and an answer's, which has an outcome in front.
-  module _ (state : Ty) (state-fits : Holds (has_ty state w-val) × WT w-val)
-      (answer : Ty) (answer-fits : (r : Answer) (v : Val) → Is A.the_row r (v ∷ []) → Holds (has_ty answer v) × WT v)
+  module _ (state : Ty) (state_fits : Holds (has_ty state w-val) × WT w-val)
+      (answer : Ty) (answer_fits : (r : Answer) (v : Val) → Is A.the_row r (v ∷ []) → Holds (has_ty answer v) × WT v)
       (outcome-first : field_of answer 0 ≡ option.some (O'.mir, 0)) (has-front : HasFront 𝓛 answer)
       (C : Calls 𝓤 H) (Λ : Loops 𝓤 H) (fm : FmC 𝓤 H 𝓛.laws C)
       (called : Triple 𝓤 (C #receiver·message·message) (Call 𝓛 at_mem run)) (counts : Triple 𝓤 (C #tally·counted) (Count 𝓛 at_mem run)) where
     walk : Room u8 (length x.now) → Room u8 (length p.now)
-        → ent 𝓤 (on_entry 𝓛 thin.signature (κ, (κ₁, (κ₂, tt))) (q, (q₁, (q₂, tt))) lent at) (WpFn 𝓤 H C Λ (over state answer) (vptr b o ∷ w-val ∷ x-val ∷ p-val ∷ []) Post)
+        → ent 𝓤 (on_entry 𝓛 thin.signature (κ, (κ₁, (κ₂, tt))) (q, (q₁, (q₂, tt))) lent at) (WpFn 𝓤 H C Λ (over state answer) (vptr b o ∷ w-val ∷ x_val ∷ p_val ∷ []) Post)
     walk x-room p-room =
         qed 𝓛 ((‵ (flft κ q) ⊛ Tokens) ∷ ‵ (owns (MutRef (named 0) κ T.the_row ∷ R.the_row ∷ MutSlice (named 1) κ₁ u8 ∷ ShrSlice (named 2) κ₂ u8 ∷ []) lent at) ∷ []) ∵
         -- the eleven locals are made, and the four parameters passed
-        enter ! C Λ (over state answer) (vptr b o ∷ w-val ∷ x-val ∷ p-val ∷ []) _ $
+        enter ! C Λ (over state answer) (vptr b o ∷ w-val ∷ x_val ∷ p_val ∷ []) _ $
         alloc1 ! (λ l₀. alloc1 ! (λ l₁. alloc1 ! (λ l₂. alloc1 ! (λ l₃. alloc1 ! (λ l₄. alloc1 ! (λ l₅. alloc1 ! (λ l₆. alloc1 ! (λ l₇. alloc1 ! (λ l₈. alloc1 ! (λ l₉. alloc1 ! (λ l₁₀. alloc0 ! $
-        params1 ! $ pass1 ! (init ! 18 refl (tt, tt)) $ pass1 ! (init ! 16 refl state-fits) $
+        params1 ! $ pass1 ! (init ! 18 refl (tt, tt)) $ pass1 ! (init ! 16 refl state_fits) $
         pass1 ! (init ! 14 refl (tt, (tt, (record { fits = x-room.0 }, tt)))) $ pass1 ! (init ! 12 refl (tt, (tt, (record { fits = p-room.0 }, tt)))) $ pass0 ! $
         -- [_10; …; _0; …; the tokens at 22; what the parameters own at 23]
         move ! (23 ∷ []) $ fsplit ! $
@@ -298,8 +298,8 @@ module _ {M : Type 1} {𝓤 : Ura M} (𝓛 : Logic 𝓤) (at_mem : Memory → SP
         (from ! (stop !)) (init ! 6 refl (tt, (tt, (record { fits = x-room.0 }, tt)))) $
         -- _5 = message(_2, _8, _4). [what it asks; the record's token; its borrow; _10 at 3; …; _8 at 7; …; _4 at 15;
         -- …; _2 at 19; …]
-        move ! (24 ∷ []) $ split ! $ move ! (1 ∷ 3 ∷ []) $ use2 𝓛 (raw ((Call 𝓛 at_mem run).pre to-call)) goes-call $
-        calls_at ! fm (Call 𝓛 at_mem run) called to-call
+        move ! (24 ∷ []) $ split ! $ move ! (1 ∷ 3 ∷ []) $ use2 𝓛 (raw ((Call 𝓛 at_mem run).pre to_call)) goes_call $
+        calls_at ! fm (Call 𝓛 at_mem run) called to_call
         (and_then ! (load ! (from ! (stop !)) (look ! 19 refl)) (and_then ! (load ! (from ! (stop !)) (look ! 7 refl)) (and_then ! (load ! (from ! (stop !)) (look ! 15 refl)) (no_more !)))) (λ v.
         -- what it ensures of the answer r and of the last storage zs
         use1 𝓛 (later (some (λ (r : Answer). (Tokens ⊛ ‵ ((A.the_row).own_val r (v ∷ []))) ⊛ raw (ensured 𝓛 call.ended (call.clauses 𝓛 at_mem run) (κ₁, (κ₂, tt)) (w, (x, (p, tt))) tt r)))) (id⊢ 𝓤 _) $
@@ -310,31 +310,31 @@ module _ {M : Type 1} {𝓤 : Ura M} (𝓛 : Logic 𝓤) (at_mem : Memory → SP
         move ! (1 ∷ []) $ split ! $ move ! (1 ∷ []) $ peeks ! A.the_row (Is A.the_row) (shows 𝓛 A.the_row) r (v ∷ []) (λ is-v.
         -- [the answer's; the tokens; the last storage; the record's token; its borrow; _10 at 5; …; _6 at 13; _5 at 15;
         -- …]
-        land ! (from ! (stop !)) (init ! 15 refl (answer-fits r v is-v)) $
+        land ! (from ! (stop !)) (init ! 15 refl (answer_fits r v is-v)) $
         -- _6 = _5.0: the outcome, which is in front of the answer while it is read
         rewrite ! 15 (λ (u : Val). ‵ (fat full_share answer l₅ 0 u)) (front_of r v is-v).joined refl $
         assigns ! (of_opd ! (load ! (from ! (fld ! outcome-first (stop !))) (look_in ! 15 (has-front l₅ _ _))))
-        (from ! (stop !)) (init ! 13 refl (outcome_fits 𝓛 r.outcome _ (front_of r v is-v).is-outcome)) $
+        (from ! (stop !)) (init ! 13 refl (outcome_fits 𝓛 r.outcome _ (front_of r v is-v).is_outcome)) $
         rewrite ! 15 (λ (u : Val). ‵ (fat full_share answer l₅ 0 u)) (sym (front_of r v is-v).joined) refl $
         -- the borrow of the record is opened
         move ! (4 ∷ []) $ fsplit3 ! $ drop ! $ move ! (0 ∷ 1 ∷ 5 ∷ []) $ opens ! tt T.the_row {h = t} b o (λ vs.
-        spelt ! T.the_row (Is T.the_row) (shows 𝓛 T.the_row) tally-vals (LL.tells T.the_type T'.the_laws) full_share t vs b o $
-        move ! (1 ∷ []) $ peeks ! T.the_row (Is T.the_row) (shows 𝓛 T.the_row) t (tally-vals t) (λ is-t. move ! (1 ∷ 0 ∷ []) $
+        spelt ! T.the_row (Is T.the_row) (shows 𝓛 T.the_row) tally_vals (LL.tells T.the_type T'.the_laws) full_share t vs b o $
+        move ! (1 ∷ []) $ peeks ! T.the_row (Is T.the_row) (shows 𝓛 T.the_row) t (tally_vals t) (λ is-t. move ! (1 ∷ 0 ∷ []) $
         -- _10 = *_1. [the record's cell; what it owns; the open borrow; obs; auth; the answer's; the tokens; the last
         -- storage; _10 at 8; _9 at 10; …; _6 at 16; _5 at 18; …; _1 at 26; _0 at 28]
-        assigns ! (of_opd ! (load ! (from ! (hop ! (look ! 26 refl) (stop !))) (look_raw ! 0 refl))) (from ! (stop !)) (init ! 8 refl (tally-fits 𝓛 t _ is-t)) $
+        assigns ! (of_opd ! (load ! (from ! (hop ! (look ! 26 refl) (stop !))) (look_raw ! 0 refl))) (from ! (stop !)) (init ! 8 refl (tally_fits 𝓛 t _ is-t)) $
         -- _9 = counted(_10, _6), and what it ensures of the new record s
-        move ! (1 ∷ []) $ use1 𝓛 (raw ((Count 𝓛 at_mem run).pre (to-count r.outcome (front_of r v is-v).front))) (goes-count r.outcome _ (front_of r v is-v).is-outcome) $
-        calls_at ! fm (Count 𝓛 at_mem run) counts (to-count r.outcome (front_of r v is-v).front)
+        move ! (1 ∷ []) $ use1 𝓛 (raw ((Count 𝓛 at_mem run).pre (to_count r.outcome (front_of r v is-v).front))) (goes_count r.outcome _ (front_of r v is-v).is_outcome) $
+        calls_at ! fm (Count 𝓛 at_mem run) counts (to_count r.outcome (front_of r v is-v).front)
         (and_then ! (load ! (from ! (stop !)) (look ! 8 refl)) (and_then ! (load ! (from ! (stop !)) (look ! 16 refl)) (no_more !))) (λ u.
         use1 𝓛 (later (some (λ (s : Tally). (‵ ftrue ⊛ ‵ ((T.the_row).own_val s (u ∷ []))) ⊛ raw (ensured 𝓛 count.ended (count.clauses 𝓛 at_mem run) tt (t, (r.outcome, tt)) tt s)))) (id⊢ 𝓤 _) $
-        await ! tt $ pick ! (λ s. split ! $ move ! (1 ∷ []) $ use1 𝓛 (raw (fact 𝓤 (Tallied r s))) (count-said r.outcome s) $ heard ! (Tallied r s) (λ tallied.
+        await ! tt $ pick ! (λ s. split ! $ move ! (1 ∷ []) $ use1 𝓛 (raw (fact 𝓤 (Tallied r s))) (count_said r.outcome s) $ heard ! (Tallied r s) (λ tallied.
         split ! $ drop ! $ peeks ! T.the_row (Is T.the_row) (shows 𝓛 T.the_row) s (u ∷ []) (λ is-s.
-        land ! (from ! (stop !)) (init ! 10 refl (tally-fits 𝓛 s u is-s)) $
+        land ! (from ! (stop !)) (init ! 10 refl (tally_fits 𝓛 s u is-s)) $
         -- *_1 = _9 and _0 = _5. [the new record's; the cell; the open borrow; obs; auth; the answer's; the tokens; the
         -- last storage; _10 at 8; _9 at 10; …]
-        assigns ! (of_opd ! (load ! (from ! (stop !)) (look ! 10 refl))) (from ! (hop ! (look ! 26 refl) (stop !))) (store_raw ! 1 refl (tally-fits 𝓛 s u is-s)) $
-        assigns ! (of_opd ! (load ! (from ! (stop !)) (look ! 18 refl))) (from ! (stop !)) (init ! 28 refl (answer-fits r v is-v)) $
+        assigns ! (of_opd ! (load ! (from ! (stop !)) (look ! 10 refl))) (from ! (hop ! (look ! 26 refl) (stop !))) (store_raw ! 1 refl (tally_fits 𝓛 s u is-s)) $
+        assigns ! (of_opd ! (load ! (from ! (stop !)) (look ! 18 refl))) (from ! (stop !)) (init ! 28 refl (answer_fits r v is-v)) $
         -- the borrow is closed at the new record
         move ! (1 ∷ 0 ∷ []) $ closes ! tt T.the_row s (u ∷ []) b o $
         -- return, and the locals are freed. [obs; the borrow; its token; the answer's; the tokens; the last storage;
@@ -351,22 +351,22 @@ module _ {M : Type 1} {𝓤 : Ura M} (𝓛 : Logic 𝓤) (at_mem : Memory → SP
 module _ {M : Type 1} {𝓤 : Ura M} (𝓛 : Logic 𝓤) (at_mem : Memory → SProp 𝓤) (run : Routine → Fun 𝓤) where
   open 𝓛 use {H}
 
-  walks-over : (C : Calls 𝓤 H) (Λ : Loops 𝓤 H) → FmC 𝓤 H 𝓛.laws C → Triple 𝓤 (C #receiver·message·message) (Call 𝓛 at_mem run) → Triple 𝓤 (C #tally·counted) (Count 𝓛 at_mem run)
+  walks_over : (C : Calls 𝓤 H) (Λ : Loops 𝓤 H) → FmC 𝓤 H 𝓛.laws C → Triple 𝓤 (C #receiver·message·message) (Call 𝓛 at_mem run) → Triple 𝓤 (C #tally·counted) (Count 𝓛 at_mem run)
       → Walks 𝓛 thin.ended stayed (WpFn 𝓤 H C Λ (over R'.mir A'.mir)) (thin.clauses 𝓛 at_mem run)
-  walks-over C Λ fm called counts =
+  walks_over C Λ fm called counts =
       walked 𝓛 thin.ended stayed (thin.clauses 𝓛 at_mem run) (WpFn 𝓤 H C Λ (over R'.mir A'.mir))
       -- how the machine values of the parameters are spelled, and that their types tell them
       (λ κs. (shr_vals, (LL.vals R.the_type R'.the_laws, (shr_slice_vals, (shr_slice_vals, tt)))))
       (λ κs. (mut_Tells (named 0) κs.0 T.the_row, (LL.tells R.the_type R'.the_laws, (mut_slice_Tells (named 1) κs.1.0 u8, (shr_slice_Tells (named 2) κs.1.1.0 u8, tt)))))
       (λ κs qs bounds a _ are. via 𝓤 _ (fst∗ 𝓤 _ (emp 𝓤)) (walk 𝓛 at_mem run
       κs.0 κs.1.0 κs.1.1.0 qs.0 qs.1.0 qs.1.1.0 a.0.ref_ptr.0 a.0.ref_ptr.1 a.0.ghost_name a.0.now a.1.0 (LL.val R.the_type R'.the_laws a.1.0) a.1.1.0 a.1.1.1.0
-      R'.mir (state-fits 𝓛 a.1.0 _ are.1.0) A'.mir (answer-fits 𝓛) front-field (front-part 𝓛)
+      R'.mir (state_fits 𝓛 a.1.0 _ are.1.0) A'.mir (answer_fits 𝓛) front_field (front_part 𝓛)
       C Λ fm called counts are.1.1.0.0.1 are.1.1.1.0.0.1))
 
   walks : (C : Calls 𝓤 H) (Λ : Loops 𝓤 H) → FmC 𝓤 H 𝓛.laws C → Triple 𝓤 (C #receiver·message·message) (Call 𝓛 at_mem run) → Triple 𝓤 (C #tally·counted) (Count 𝓛 at_mem run)
       → Walks 𝓛 thin.ended stayed (WpFn 𝓤 H C Λ code.function) (thin.clauses 𝓛 at_mem run)
   walks C Λ fm called counts =
-      subst (λ (f : Fn). Walks 𝓛 thin.ended stayed (WpFn 𝓤 H C Λ f) (thin.clauses 𝓛 at_mem run)) (sym same_code) (walks-over C Λ fm called counts)
+      subst (λ (f : Fn). Walks 𝓛 thin.ended stayed (WpFn 𝓤 H C Λ f) (thin.clauses 𝓛 at_mem run)) (sym same_code) (walks_over C Λ fm called counts)
 
   -- what is left of each parameter gives what the contract says of it
   goes : AllGo 𝓛 3 (thin.signature).params (thin.ended).kept stayed
@@ -390,5 +390,5 @@ message-spec 𝓤 𝓛 𝓜 𝓡 =
     entered 𝓤 𝓛.H (triple_of 𝓛 thin.signature (thin.spec 𝓛 𝓜.mem 𝓡.run))
     (tables 𝓤 𝓛.H 𝓜 𝓡 code.env).C (tables 𝓤 𝓛.H 𝓜 𝓡 code.env).Λ #tally·message code.function (code.unfolded 𝓤 𝓛.H 𝓜 𝓡)
     (meets 𝓛 𝓜.mem 𝓡.run (tables_of 𝓤 𝓛.H 𝓜 (tables 𝓤 𝓛.H 𝓜 𝓡 code.env))
-    (cited 𝓤 𝓛.H (Call 𝓛 𝓜.mem 𝓡.run) 𝓜 𝓡 code.env #receiver·message·message call-def.routine code.calls-receiver::message::message (call-thm.met 𝓤 𝓛 𝓜 𝓡))
-    (cited 𝓤 𝓛.H (Count 𝓛 𝓜.mem 𝓡.run) 𝓜 𝓡 code.env #tally·counted count-def.routine code.calls-tally::counted (count-thm.met 𝓤 𝓛 𝓜 𝓡)))
+    (cited 𝓤 𝓛.H (Call 𝓛 𝓜.mem 𝓡.run) 𝓜 𝓡 code.env #receiver·message·message call_def.routine code.calls-receiver::message::message (call_thm.met 𝓤 𝓛 𝓜 𝓡))
+    (cited 𝓤 𝓛.H (Count 𝓛 𝓜.mem 𝓡.run) 𝓜 𝓡 code.env #tally·counted count_def.routine code.calls-tally::counted (count_thm.met 𝓤 𝓛 𝓜 𝓡)))

@@ -1,7 +1,7 @@
 -- The words where they stand. Assumes nothing.
 use mathlib.Core.Path.{sym, ◌∙◌}
 use native.Mathlib.Omega.{arith}
-use Rattle.words.specs.WordsLaws.{record-there, record-past, record-read}
+use Rattle.words.specs.WordsLaws.{record_there, record_past, record_read}
 use borrow.Author.Rules.{rules}
 use Rattle.words.proofs.load.Statement.{statement}
 use Rattle.words.proofs.load.Tie as tie
@@ -15,7 +15,7 @@ add-if1 c = search rules
 returns : tie.Need-returns
 returns c =
     let a = c.before.before.before.args in
-    sym (record-past a.words.now a.i (omega (arith, c.before.first_of.ensures, c.if1.true)))
+    sym (record_past a.words.now a.i (omega (arith, c.before.first_of.ensures, c.if1.true)))
 
 mul-t4 : tie.Need-overflow-mul-t4
 mul-t4 c = search rules
@@ -108,8 +108,8 @@ returns-2 : tie.Need-returns-2
 returns-2 c =
     let first = c.before.before.before.before.before.before.before.before.before.before.before in
     let a = first.before.before.args in
-    let there = record-there a.words.now a.i (omega (arith, first.first_of.ensures, c.before.before.before.before.before.before.before.before.before.before.if1.false)) in
-    rw first.first_of.ensures (sym (there ∙ record-read a.words.now _))
+    let there = record_there a.words.now a.i (omega (arith, first.first_of.ensures, c.before.before.before.before.before.before.before.before.before.before.if1.false)) in
+    rw first.first_of.ensures (sym (there ∙ record_read a.words.now _))
 
 pub load_spec : {M : Type 1} → statement M
 load_spec =

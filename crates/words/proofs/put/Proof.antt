@@ -2,9 +2,9 @@
 use mathlib.Core.Path.{sym}
 use native.Mathlib.Omega.{arith}
 use lib.ListN.{length-set}
-use Rattle.octets.specs.RunLaws.{laid-past}
-use Rattle.words.specs.Words.{recordWords}
-use Rattle.words.specs.WordsLaws.{put-laid}
+use Rattle.octets.specs.RunLaws.{laid_past}
+use Rattle.words.specs.Words.{record_words}
+use Rattle.words.specs.WordsLaws.{put_laid}
 use borrow.Author.Rules.{rules}
 use Rattle.words.proofs.put.Statement.{statement}
 use Rattle.words.proofs.put.Tie as tie
@@ -108,12 +108,12 @@ same_length c = simp length-set
 returns : tie.Need-returns
 returns c =
     let a = c.before.before.before.args in
-    rw (sym c.before.first_of.ensures) (put-laid a.words.now _ a.r (omega arith))
+    rw (sym c.before.first_of.ensures) (put_laid a.words.now _ a.r (omega arith))
 
 returns-2 : tie.Need-returns-2
 returns-2 c =
     let a = c.before.before.before.args in
-    sym (laid-past a.words.now _ (recordWords a.r) (omega (arith, c.before.first_of.ensures, c.if1.false)))
+    sym (laid_past a.words.now _ (record_words a.r) (omega (arith, c.before.first_of.ensures, c.if1.false)))
 
 pub put_spec : {M : Type 1} → statement M
 put_spec =

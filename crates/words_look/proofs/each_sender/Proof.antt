@@ -4,14 +4,14 @@ use mathlib.Core.Path.{◌≡◌, refl, sym}
 use mathlib.Core.Bool.{true}
 use native.Mathlib.Omega.{arith}
 use borrow.Author.Tests.{not-true, not-false}
-use Rattle.words_look.specs.private.Tests.{recordsWithin, eachTo}
-use Rattle.words_look.specs.private.TestsLaws.{senders-not, senders-more}
+use Rattle.words_look.specs.private.Tests.{records_within, each_to}
+use Rattle.words_look.specs.private.TestsLaws.{senders_not, senders_more}
 use borrow.Author.Rules.{rules}
 use Rattle.words_look.proofs.each_sender.Statement.{statement}
 use Rattle.words_look.proofs.each_sender.Tie as tie
 
 abbrev invariant-loop : tie.invariant-loop
-invariant-loop words count clock i₀ i = (i ≤ count) × (recordsWithin words i ≡ true)
+invariant-loop words count clock i₀ i = (i ≤ count) × (records_within words i ≡ true)
 
 abbrev decreases-loop : tie.decreases-loop
 decreases-loop words count clock i₀ i = count - i
@@ -20,7 +20,7 @@ at-requires : tie.Need-at-requires invariant-loop decreases-loop
 at-requires c κs = search rules
 
 loop-holds : tie.Need-loop-init invariant-loop decreases-loop
-unfolding eachTo
+unfolding each_to
 loop-holds c = (omega arith, refl)
 
 first-of-requires : tie.Need-first-of-requires invariant-loop decreases-loop
@@ -48,7 +48,7 @@ returns : tie.Need-returns invariant-loop decreases-loop
 returns c =
     let looked = c.before.before.before in
     let start = looked.before.before.before in
-    senders-not start.before.before.requires looked.before.loop-test.true looked.first_of.ensures start.at.ensures c.before.sender-within.ensures
+    senders_not start.before.before.requires looked.before.loop-test.true looked.first_of.ensures start.at.ensures c.before.sender-within.ensures
     (not-true _ c.if1.true)
 
 add-i : tie.Need-overflow-add-i invariant-loop decreases-loop
@@ -62,7 +62,7 @@ loop-again c =
     let looked = c.before.before.before in
     let start = looked.before.before.before in (
       omega arith,
-      senders-more start.before.before.requires looked.before.loop-test.true looked.first_of.ensures start.at.ensures c.before.sender-within.ensures
+      senders_more start.before.before.requires looked.before.loop-test.true looked.first_of.ensures start.at.ensures c.before.sender-within.ensures
           looked.before.before.loop.invariant.1 (not-false _ c.if1.false),
     )
 

@@ -1,6 +1,6 @@
 -- The tests are those of the definition. Assumes nothing.
 use mathlib.Core.Bool.{and_assoc}
-use Rattle.words_look.specs.private.Tests.{eachSetting}
+use Rattle.words_look.specs.private.Tests.{each_setting}
 use borrow.Author.Rules.{rules}
 use Rattle.words_look.proofs.each_setting.Statement.{statement}
 use Rattle.words_look.proofs.each_setting.Tie as tie
@@ -24,7 +24,7 @@ groups-within-requires : tie.Need-groups-within-requires
 groups-within-requires c κs = search rules
 
 returns : tie.Need-returns
-unfolding eachSetting
+unfolding each_setting
 returns c =
     let five = c.before in
     simp (c.groups-within.ensures, five.at5.ensures, five.before.at4.ensures, five.before.before.at3.ensures, five.before.before.before.at2.ensures, five.before.before.before.before.at.ensures, and_assoc)

@@ -2,8 +2,8 @@
 use Prim.Native.Nat.{ℕ, ◌%◌}
 use mathlib.Core.Path.{sym, ap, ◌∙◌}
 use borrow.Author.Tests.{not-true, not-false}
-use Rattle.words_look.specs.LookLaws.{held_by, outside-nine, look-held}
-use Rattle.words_look.specs.HeldLaws.{count-octet}
+use Rattle.words_look.specs.LookLaws.{held_by, outside_nine, look_held}
+use Rattle.words_look.specs.HeldLaws.{count_octet}
 use borrow.Author.Rules.{rules}
 use Rattle.words_look.proofs.look.Statement.{statement}
 use Rattle.words_look.proofs.look.Tie as tie
@@ -14,7 +14,7 @@ within-requires c κs = search rules
 returns : tie.Need-returns
 returns c =
     let a = c.before.before.before.args in
-    outside-nine a.words.now a.a (sym c.before.within.ensures ∙ not-true _ c.if1.true)
+    outside_nine a.words.now a.a (sym c.before.within.ensures ∙ not-true _ c.if1.true)
 
 at-requires : tie.Need-at-requires
 at-requires c κs = search rules
@@ -30,8 +30,8 @@ returns-2 c =
     let found = c.before.before in
     let a = found.before.before.before.args in
     let held = held_by a.words.now (sym found.before.within.ensures ∙ not-false _ found.if1.false) in
-    let count = ap (λ (w : ℕ). w % 256) c.before.at.ensures ∙ count-octet a.words.now held.is_state in
-    rw (c.place_of.ensures, count) (look-held a.words.now a.a held)
+    let count = ap (λ (w : ℕ). w % 256) c.before.at.ensures ∙ count_octet a.words.now held.means_state in
+    rw (c.place_of.ensures, count) (look_held a.words.now a.a held)
 
 pub look_spec : {M : Type 1} → statement M
 look_spec =

@@ -4,7 +4,7 @@ use mathlib.Core.Path.{◌≡◌, sym, ap, ◌∙◌}
 use native.Mathlib.Omega.{arith}
 use borrow.Author.Tests.{not-true, not-false}
 use Rattle.words.specs.Words.{half, word}
-use Rattle.words_look.specs.private.TestsLaws.{Apart, apart_none, apart-not, apart_more}
+use Rattle.words_look.specs.private.TestsLaws.{Apart, apart_none, apart_not, apart_more}
 use borrow.Author.Rules.{rules}
 use Rattle.words_look.proofs.none_twice.Statement.{statement}
 use Rattle.words_look.proofs.none_twice.Tie as tie
@@ -37,7 +37,7 @@ returns c =
     let start = loop.before.before in
     let l = start.args.words.now in
     let key = ap (λ (w : ℕ). w % half) (read.at.ensures ∙ ap (word l) read.before.first_of.ensures) in
-    apart-not loop.loop.invariant start.requires.0 start.requires.1 read.before.before.loop-test.true key c.before.fresh.ensures (not-true _ c.if1.true)
+    apart_not loop.loop.invariant start.requires.0 start.requires.1 read.before.before.loop-test.true key c.before.fresh.ensures (not-true _ c.if1.true)
 
 cast-seen : tie.Need-overflow-cast-seen invariant-loop decreases-loop
 cast-seen c = search rules
@@ -67,7 +67,7 @@ returns-2 : tie.Need-returns-2 invariant-loop decreases-loop
 returns-2 c =
     let own = c.before.loop.invariant in
     let z : c.before.loop.i ≡ c.before.before.before.args.count = omega (arith, own.few) in
-    rw (sym z) (sym own.are-new)
+    rw (sym z) (sym own.are_new)
 
 pub none-twice-spec : {M : Type 1} → statement M
 none-twice-spec =

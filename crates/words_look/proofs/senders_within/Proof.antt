@@ -1,7 +1,7 @@
 -- The tests in the order in which they are made. Assumes nothing.
 use mathlib.Core.Path.{sym, ◌∙◌}
 use borrow.Author.Tests.{not-true, not-false}
-use Rattle.words_look.specs.private.TestsLaws.{none-few}
+use Rattle.words_look.specs.private.TestsLaws.{none_few}
 use borrow.Author.Rules.{rules}
 use Rattle.words_look.proofs.senders_within.Statement.{statement}
 use Rattle.words_look.proofs.senders_within.Tie as tie
@@ -17,7 +17,7 @@ returns c =
 returns-2 : tie.Need-returns-2
 returns-2 c =
     let each = c.before.before.each-sender in
-    rw (sym each.ensures, not-false each.result c.before.if1.false, none-few c.before.before.before.before.args.words.now _ c.if2.true)
+    rw (sym each.ensures, not-false each.result c.before.if1.false, none_few c.before.before.before.before.args.words.now _ c.if2.true)
 
 none-twice-requires : tie.Need-none-twice-requires
 none-twice-requires c κs = (c.before.before.before.before.requires, sym c.before.before.each-sender.ensures ∙ not-false _ c.before.if1.false)

@@ -2,9 +2,9 @@
 use Prim.Native.Nat.{ℕ, ◌%◌}
 use mathlib.Core.Path.{sym, ap, ◌∙◌}
 use borrow.Author.Tests.{not-true, not-false}
-use Rattle.words.specs.StateLaws.{state-facts}
-use Rattle.words_look.specs.LookLaws.{nine-unless}
-use Rattle.words_look.specs.private.TestsLaws.{whole-test, sized, senders-tests}
+use Rattle.words.specs.StateLaws.{state_facts}
+use Rattle.words_look.specs.LookLaws.{nine_unless}
+use Rattle.words_look.specs.private.TestsLaws.{whole_test, sized, senders_tests}
 use borrow.Author.Rules.{rules}
 use Rattle.words_look.proofs.within.Statement.{statement}
 use Rattle.words_look.proofs.within.Tie as tie
@@ -12,7 +12,7 @@ use Rattle.words_look.proofs.within.Tie as tie
 returns : tie.Need-returns
 returns c =
     let l = c.before.before.args.words.now in
-    nine-unless l (λ h. c.if1.true (state-facts l h.is_state).many)
+    nine_unless l (λ h. c.if1.true (state_facts l h.means_state).many)
 
 settings-within-requires : tie.Need-settings-within-requires
 settings-within-requires c κs = search rules
@@ -21,7 +21,7 @@ returns-2 : tie.Need-returns-2
 returns-2 c =
     let one = c.before.before in
     let settings = c.before.settings-within in
-    rw (whole-test one.before.before.args.words.now one.if1.false, sym settings.ensures, not-true settings.result c.if2.true)
+    rw (whole_test one.before.before.args.words.now one.if1.false, sym settings.ensures, not-true settings.result c.if2.true)
 
 at-requires : tie.Need-at-requires
 at-requires c κs = search rules
@@ -41,7 +41,7 @@ returns-3 c =
     let one = two.before.before in
     let settings = sym two.before.settings-within.ensures ∙ not-false _ two.if2.false in
     c.senders-within.ensures
-    ∙ sym (senders-tests one.before.before.args.words.now one.if1.false settings _ (ap (λ (w : ℕ). w % 256) c.before.at.ensures))
+    ∙ sym (senders_tests one.before.before.args.words.now one.if1.false settings _ (ap (λ (w : ℕ). w % 256) c.before.at.ensures))
 
 pub within-spec : {M : Type 1} → statement M
 within-spec =

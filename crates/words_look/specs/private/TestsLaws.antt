@@ -7,73 +7,73 @@ use Rattle.std.proofs.Math.Bool.{and_assoc, and_comm, and-true, and-false, or-fa
 use native.Mathlib.Omega.{arith}
 use Rattle.std.specs.Int.Count.{ones}
 use Rattle.std.proofs.lemmas.Bool.{lt-leb}
-use Rattle.octets.specs.Split.{lt-or-le, same_test, both, and_left, and_right, or_left, or_right, either}
+use Rattle.octets.specs.Split.{lt_or_le, same_test, both, and_left, and_right, or_left, or_right, either}
 use Rattle.ring.specs.Ring.{M, is_number}
-use Rattle.header.specs.Codes.{isUser}
-use Rattle.groups.specs.Groups.{groupsMost, groupsWithin}
-use Rattle.cut.specs.Possible.{severalPossible}
-use Rattle.map.specs.Map.{is_empty, isFull, markedPast}
-use Rattle.state.specs.Key.{key_of, Narrow, newKey}
-use Rattle.state.specs.KeyLaws.{Seen, seen_none, seen_more, new-seen}
-use Rattle.state.specs.Limits.{isAddress, isN1, isDropTime, clockMost, lastWithin, messageWithin, senderWithin, newAmong, addressAt, sendersWithin, settingsOf, settingsWithin, valid}
-use Rattle.state.specs.State.{sendersMost}
-use Rattle.state.specs.WithinLaws.{sender-facts}
+use Rattle.header.specs.Codes.{is_user}
+use Rattle.groups.specs.Groups.{groups_most, groups_within}
+use Rattle.cut.specs.Possible.{several_possible}
+use Rattle.map.specs.Map.{is_empty, is_full, marked_past}
+use Rattle.state.specs.Key.{key_of, Narrow, new_key}
+use Rattle.state.specs.KeyLaws.{Seen, seen_none, seen_more, new_seen}
+use Rattle.state.specs.Limits.{is_address, is_n1, is_drop_time, clock_most, last_within, message_within, sender_within, new_among, address_at, senders_within, settings_of, settings_within, valid}
+use Rattle.state.specs.State.{senders_most}
+use Rattle.state.specs.WithinLaws.{sender_facts}
 use Rattle.words.specs.declared.Record.{Record}
-use Rattle.words.specs.Words.{place, each, wordsMost, word, groupsIn, half, recordIn, recordAt, addressIn, lastIn, messageIn, flag, senderOf, fits, sendersIn, stateIn, fitTo, isState}
-use Rattle.words.specs.StateLaws.{state-facts, state-of, sender-in}
+use Rattle.words.specs.Words.{place, each, words_most, word, groups_in, half, record_in, record_at, address_in, last_in, message_in, flag, sender_of, fits, senders_in, state_in, fit_to, is_state}
+use Rattle.words.specs.StateLaws.{state_facts, state_of_lem, sender_in_lem}
 use Rattle.words.specs.WrittenLaws.{part_in}
 use Rattle.words_look.specs.Look.{is_held}
-use Rattle.words_look.specs.AddressLaws.{address-key, address-narrow, address-short, address_word, address-in}
-use Rattle.words_look.specs.private.Tests.{eachSetting, settingsFit, whereSet, aliveWithin, openWithin, cutWithin, recordWithin, Sized, eachTo, recordsWithin, noneTwice}
+use Rattle.words_look.specs.AddressLaws.{address_key, address_narrow, address_short, address_word, address_in_lem}
+use Rattle.words_look.specs.private.Tests.{each_setting, settings_fit, where_set, alive_within, open_within, cut_within, record_within, Sized, each_to, records_within, none_twice}
 
 -- ---- a test that each passes
 
 module _ (f : ℕ → Bool) where
-  pub each_more : (k : ℕ) → eachTo f k ≡ true → f k ≡ true → eachTo f (k + 1) ≡ true
-  unfolding eachTo
+  pub each_more : (k : ℕ) → each_to f k ≡ true → f k ≡ true → each_to f (k + 1) ≡ true
+  unfolding each_to
   each_more k e h = rw (add-one k, e) h
 
-  pub each_at : (k : ℕ) → eachTo f k ≡ true → (i : ℕ) → i < k → f i ≡ true
-  unfolding eachTo
+  pub each_at : (k : ℕ) → each_to f k ≡ true → (i : ℕ) → i < k → f i ≡ true
+  unfolding each_to
   each_at zero e i h = absurd (omega arith)
   each_at (suc k) e i h = ⊎_elim
-      (λ (q : i < k). each_at k (and_left (eachTo f k) (f k) e) i q)
+      (λ (q : i < k). each_at k (and_left (each_to f k) (f k) e) i q)
       (λ (q : k ≤ i).
       let z : i ≡ k = omega arith in
-      rw z (and_right (eachTo f k) (f k) e))
-      (lt-or-le i k)
+      rw z (and_right (each_to f k) (f k) e))
+      (lt_or_le i k)
 
-  pub each-not : (k i : ℕ) → i < k → f i ≡ false → eachTo f k ≡ false
-  unfolding eachTo
-  each-not zero i h e = absurd (omega arith)
-  each-not (suc k) i h e = ⊎_elim
-      (λ (q : i < k). rw (each-not k i q e))
+  pub each_not : (k i : ℕ) → i < k → f i ≡ false → each_to f k ≡ false
+  unfolding each_to
+  each_not zero i h e = absurd (omega arith)
+  each_not (suc k) i h e = ⊎_elim
+      (λ (q : i < k). rw (each_not k i q e))
       (λ (q : k ≤ i).
       let z : i ≡ k = omega arith in
-      rw (sym z, e) (and-false (eachTo f i)))
-      (lt-or-le i k)
+      rw (sym z, e) (and-false (each_to f i)))
+      (lt_or_le i k)
 
 -- ---- the settings
 
 -- Each by itself, and "an empty state": of the states without senders only that one.
-pub settings-tests : (l : List ℕ) → settingsFit l ≡ eachSetting l && (ltb 0 (word l 4) || (not (flag (word l 0)) && eqb (word l 1) 1 && eqb (word l 2) 1 && eqb (word l 5) 0))
-unfolding settingsFit settingsOf eachSetting
-settings-tests l = sym (and_assoc (leb (word l 0) 1) (leb (word l 3) clockMost && leb (word l 4) sendersMost && isN1 (word l 1) && isDropTime (word l 2) && groupsWithin (groupsIn (word l 5) (word l 6))) _)
+pub settings_tests : (l : List ℕ) → settings_fit l ≡ each_setting l && (ltb 0 (word l 4) || (not (flag (word l 0)) && eqb (word l 1) 1 && eqb (word l 2) 1 && eqb (word l 5) 0))
+unfolding settings_fit settings_of each_setting
+settings_tests l = sym (and_assoc (leb (word l 0) 1) (leb (word l 3) clock_most && leb (word l 4) senders_most && is_n1 (word l 1) && is_drop_time (word l 2) && groups_within (groups_in (word l 5) (word l 6))) _)
 
 -- No more groups than there may be are counted in an octet.
-pub groups-many : (l : List ℕ) → groupsMost < word l 5 → false ≡ groupsWithin (groupsIn (word l 5) (word l 6))
-unfolding groupsWithin
-groups-many l many = rw (lt-leb (word l 5) groupsMost many)
+pub groups_many : (l : List ℕ) → groups_most < word l 5 → false ≡ groups_within (groups_in (word l 5) (word l 6))
+unfolding groups_within
+groups_many l many = rw (lt-leb (word l 5) groups_most many)
 
-pub groups-few : (l : List ℕ) → word l 5 ≤ groupsMost → groupsIn (word l 5 % 256) (word l 6) ≡ groupsIn (word l 5) (word l 6)
-groups-few l few = ap (λ (k : ℕ). groupsIn k (word l 6)) (mod-eq_of_lt (omega arith))
+pub groups_few : (l : List ℕ) → word l 5 ≤ groups_most → groups_in (word l 5 % 256) (word l 6) ≡ groups_in (word l 5) (word l 6)
+groups_few l few = ap (λ (k : ℕ). groups_in k (word l 6)) (mod-eq_of_lt (omega arith))
 
 -- ---- one sender's words
 
-where-set : (w : ℕ) (asked : Bool) → leb w 1 && (not (flag w) || asked) ≡ whereSet w asked
-where-set zero asked = refl
-where-set (suc zero) asked = refl
-where-set (suc (suc w)) asked =
+where_set_lem : (w : ℕ) (asked : Bool) → leb w 1 && (not (flag w) || asked) ≡ where_set w asked
+where_set_lem zero asked = refl
+where_set_lem (suc zero) asked = refl
+where_set_lem (suc (suc w)) asked =
     let n = suc (suc w) in
     rw (lt-leb n 1 (omega arith), ne_eqb n 1 (λ e. omega (arith, e)), ne_eqb n 0 (λ e. omega (arith, e)))
 
@@ -86,18 +86,18 @@ regroup true true true false h x y m = refl
 regroup true true true true false x y m = simp and-false
 regroup true true true true true x y m = simp (and-true, and_assoc)
 
-pub record-tests : (clock : ℕ) (r : Record)
-    → recordWithin clock r ≡ aliveWithin clock r && (isAddress (addressIn r.address) && (lastWithin (lastIn r.last) && openWithin clock r))
-unfolding recordWithin fits senderWithin
-record-tests clock r =
-    regroup (leb r.«open» 1) (leb r.alive 1) (flag r.alive) (ltb r.timeout half) (leb r.heard clock) (isAddress (addressIn r.address))
-    (lastWithin (lastIn r.last)) (not (flag r.«open») || messageWithin clock (messageIn r))
-    ∙ rw (where-set r.alive (ltb r.timeout half && leb r.heard clock), where-set r.«open» (messageWithin clock (messageIn r)))
+pub record_tests : (clock : ℕ) (r : Record)
+    → record_within clock r ≡ alive_within clock r && (is_address (address_in r.address) && (last_within (last_in r.last) && open_within clock r))
+unfolding record_within fits sender_within
+record_tests clock r =
+    regroup (leb r.«open» 1) (leb r.alive 1) (flag r.alive) (ltb r.timeout half) (leb r.heard clock) (is_address (address_in r.address))
+    (last_within (last_in r.last)) (not (flag r.«open») || message_within clock (message_in r))
+    ∙ rw (where_set_lem r.alive (ltb r.timeout half && leb r.heard clock), where_set_lem r.«open» (message_within clock (message_in r)))
 
 -- Under version 0 the last number 0 makes a word of 0.
-pub last-test : (w : ℕ) → is_number (w % half) || eqb w 0 ≡ lastWithin (lastIn w)
-unfolding lastWithin
-last-test w =
+pub last_test : (w : ℕ) → is_number (w % half) || eqb w 0 ≡ last_within (last_in w)
+unfolding last_within
+last_test w =
     let n = w % half in
     let v = w / half in
     let small = leb n M in
@@ -113,32 +113,32 @@ last-test w =
     (λ (none : n ≤ 0).
     let first : v ≡ 0 = eqb-true v 0 (and_right true (eqb v 0) (sym (or-false (eqb v 0)) ∙ (rw (le-ltb 0 n none) at (and_right small nothing e)))) in
     or_right (is_number n) (eqb w 0) (eq-eqb w 0 (omega (arith, first))))
-    (lt-or-le 0 n))
+    (lt_or_le 0 n))
 
-pub message-tests : (clock : ℕ) (r : Record)
-    → messageWithin clock (messageIn r) ≡ leb r.stamp clock && (is_number (r.message % half) && cutWithin r.cut r.map)
-unfolding messageWithin cutWithin
-message-tests clock r =
-    let m = messageIn r in
-    let map = not (is_empty m.map || isFull m.map m.tbn || markedPast m.map m.tbn) in
+pub message_tests : (clock : ℕ) (r : Record)
+    → message_within clock (message_in r) ≡ leb r.stamp clock && (is_number (r.message % half) && cut_within r.cut r.map)
+unfolding message_within cut_within
+message_tests clock r =
+    let m = message_in r in
+    let map = not (is_empty m.map || is_full m.map m.tbn || marked_past m.map m.tbn) in
     let held = eqb m.held (ones m.map) in
-    and_comm (is_number m.number.0 && isUser m.tcd && severalPossible m.n m.tbn m.u && map && held) (leb m.stamp clock) ∙ simp and_assoc
+    and_comm (is_number m.number.0 && is_user m.tcd && several_possible m.n m.tbn m.u && map && held) (leb m.stamp clock) ∙ simp and_assoc
 
 -- ---- all senders
 
 -- The ten words from the sender's first on were looked at.
 module _ {l : List ℕ} {count : ℕ} (size : Sized l count) {i : ℕ} (less : i < count) {first clock : ℕ} (starts : first ≡ place i)
-    (time : clock ≡ word l 3) {passed : Bool} (test : passed ≡ recordWithin clock (recordIn (take ((first + each) - first) (drop first l)))) where
-  sender-test : passed ≡ recordWithin (word l 3) (recordAt l i)
-  sender-test =
+    (time : clock ≡ word l 3) {passed : Bool} (test : passed ≡ record_within clock (record_in (take ((first + each) - first) (drop first l)))) where
+  sender_test : passed ≡ record_within (word l 3) (record_at l i)
+  sender_test =
       let ten : (first + each) - first ≡ each = omega arith in
-      test ∙ rw (time, ten, starts) (ap (recordWithin (word l 3)) (part_in l i (omega arith)))
+      test ∙ rw (time, ten, starts) (ap (record_within (word l 3)) (part_in l i (omega arith)))
 
-  pub senders-not : passed ≡ false → false ≡ recordsWithin l count
-  senders-not e = sym (each-not (λ k. recordWithin (word l 3) (recordAt l k)) count i less (sym sender-test ∙ e))
+  pub senders_not : passed ≡ false → false ≡ records_within l count
+  senders_not e = sym (each_not (λ k. record_within (word l 3) (record_at l k)) count i less (sym sender_test ∙ e))
 
-  pub senders-more : recordsWithin l i ≡ true → passed ≡ true → recordsWithin l (i + 1) ≡ true
-  senders-more so_far e = each_more (λ k. recordWithin (word l 3) (recordAt l k)) i so_far (sym sender-test ∙ e)
+  pub senders_more : records_within l i ≡ true → passed ≡ true → records_within l (i + 1) ≡ true
+  senders_more so_far e = each_more (λ k. record_within (word l 3) (record_at l k)) i so_far (sym sender_test ∙ e)
 
 -- Where one place is looked at for both, and where all are looked at for one and then for the other.
 apart : (a b c d f s n : Bool) → a && b ≡ c && d → (a && (f && s)) && (b && n) ≡ (c && f) && (d && (s && n))
@@ -147,109 +147,109 @@ apart a b c d true false n e = simp and-false
 apart a b c d true true false e = simp and-false
 apart a b c d true true true e = simp and-true e
 
-each-test : (l : List ℕ) (k : ℕ) → k ≤ sendersMost → recordsWithin l k && noneTwice l k ≡ fitTo l k && sendersWithin (word l 3) (sendersIn l) k
-unfolding eachTo recordWithin fitTo sendersWithin
-each-test l zero few = refl
-each-test l (suc k) few =
-    let new = newAmong (addressAt (sendersIn l)) k (addressAt (sendersIn l) k) in
-    rw (sender-in l k (omega arith))
-    (apart (recordsWithin l k) (noneTwice l k) (fitTo l k) (sendersWithin (word l 3) (sendersIn l) k) (fits (recordAt l k))
-    (senderWithin (word l 3) (senderOf (recordAt l k))) new (each-test l k (omega arith)))
+each_test : (l : List ℕ) (k : ℕ) → k ≤ senders_most → records_within l k && none_twice l k ≡ fit_to l k && senders_within (word l 3) (senders_in l) k
+unfolding each_to record_within fit_to senders_within
+each_test l zero few = refl
+each_test l (suc k) few =
+    let new = new_among (address_at (senders_in l)) k (address_at (senders_in l) k) in
+    rw (sender_in_lem l k (omega arith))
+    (apart (records_within l k) (none_twice l k) (fit_to l k) (senders_within (word l 3) (senders_in l) k) (fits (record_at l k))
+    (sender_within (word l 3) (sender_of (record_at l k))) new (each_test l k (omega arith)))
 
 -- ---- number 9
 
-settings-count : (l : List ℕ) → settingsFit l ≡ true → word l 4 ≤ sendersMost
-unfolding settingsFit settingsOf
-settings-count l e =
-    let a1 = leb (word l 3) clockMost in
-    let a2 = leb (word l 4) sendersMost in
-    let a3 = isN1 (word l 1) in
-    let a4 = isDropTime (word l 2) in
-    let a5 = groupsWithin (groupsIn (word l 5) (word l 6)) in
-    let e5 = and_left (a1 && a2 && a3 && a4 && a5) _ (and_right (leb (word l 0) 1) (settingsWithin (stateIn l)) e) in
+settings_count : (l : List ℕ) → settings_fit l ≡ true → word l 4 ≤ senders_most
+unfolding settings_fit settings_of
+settings_count l e =
+    let a1 = leb (word l 3) clock_most in
+    let a2 = leb (word l 4) senders_most in
+    let a3 = is_n1 (word l 1) in
+    let a4 = is_drop_time (word l 2) in
+    let a5 = groups_within (groups_in (word l 5) (word l 6)) in
+    let e5 = and_left (a1 && a2 && a3 && a4 && a5) _ (and_right (leb (word l 0) 1) (settings_within (state_in l)) e) in
     let e4 = and_left (a1 && a2 && a3 && a4) a5 e5 in
     let e2 = and_left (a1 && a2) a3 (and_left (a1 && a2 && a3) a4 e4) in
-    leb-true (word l 4) sendersMost (and_right a1 a2 e2)
+    leb-true (word l 4) senders_most (and_right a1 a2 e2)
 
 -- Of as many words as a state has.
-pub whole-test : (l : List ℕ) → length l ≡ wordsMost
-    → is_held l ≡ settingsFit l && (recordsWithin l (word l 4) && noneTwice l (word l 4))
-unfolding settingsFit valid is_held
-whole-test l many =
+pub whole_test : (l : List ℕ) → length l ≡ words_most
+    → is_held l ≡ settings_fit l && (records_within l (word l 4) && none_twice l (word l 4))
+unfolding settings_fit valid is_held
+whole_test l many =
     let test = leb (word l 0) 1 in
-    let settings = settingsWithin (stateIn l) in
-    let senders = recordsWithin l (word l 4) && noneTwice l (word l 4) in
-    let fit = fitTo l (word l 4) in
-    let within = sendersWithin (word l 3) (sendersIn l) (word l 4) in
-    same_test (isState l && (settings && within)) (test && settings && senders)
+    let settings = settings_within (state_in l) in
+    let senders = records_within l (word l 4) && none_twice l (word l 4) in
+    let fit = fit_to l (word l 4) in
+    let within = senders_within (word l 3) (senders_in l) (word l 4) in
+    same_test (is_state l && (settings && within)) (test && settings && senders)
     (λ e.
-    let f = state-facts l (and_left (isState l) (settings && within) e) in
-    let v = and_right (isState l) (settings && within) e in
+    let f = state_facts l (and_left (is_state l) (settings && within) e) in
+    let v = and_right (is_state l) (settings && within) e in
     both (test && settings) senders (both test settings (le-leb (word l 0) 1 f.test) (and_left settings within v))
-    (each-test l (word l 4) f.few ∙ both fit within f.fit (and_right settings within v)))
+    (each_test l (word l 4) f.few ∙ both fit within f.fit (and_right settings within v)))
     (λ e.
     let s = and_left (test && settings) senders e in
-    let few = settings-count l s in
-    let all = sym (each-test l (word l 4) few) ∙ and_right (test && settings) senders e in
-    let is = state-of l (record { many = many; test = leb-true (word l 0) 1 (and_left test settings s); few = few; fit = and_left fit within all }) in
-    both (isState l) (settings && within) is (both settings within (and_right test settings s) (and_right fit within all)))
+    let few = settings_count l s in
+    let all = sym (each_test l (word l 4) few) ∙ and_right (test && settings) senders e in
+    let is = state_of_lem l (record { many = many; test = leb-true (word l 0) 1 (and_left test settings s); few = few; fit = and_left fit within all }) in
+    both (is_state l) (settings && within) is (both settings within (and_right test settings s) (and_right fit within all)))
 
 -- Once the settings have passed, the count fits an octet, and it is the senders' turn.
-module _ (l : List ℕ) (many : length l ≡ wordsMost) (settings : settingsFit l ≡ true) (count : ℕ) (is : count ≡ word l 4 % 256) where
-  count-is : word l 4 ≡ count
-  count-is = sym (is ∙ mod-eq_of_lt (omega (arith, settings-count l settings)))
+module _ (l : List ℕ) (many : length l ≡ words_most) (settings : settings_fit l ≡ true) (count : ℕ) (is : count ≡ word l 4 % 256) where
+  count_is : word l 4 ≡ count
+  count_is = sym (is ∙ mod-eq_of_lt (omega (arith, settings_count l settings)))
 
   pub sized : Sized l count
-  sized = record { many = many; most = omega (arith, count-is, settings-count l settings) }
+  sized = record { many = many; most = omega (arith, count_is, settings_count l settings) }
 
-  pub senders-tests : is_held l ≡ recordsWithin l count && noneTwice l count
-  senders-tests = whole-test l many ∙ rw (settings, count-is)
+  pub senders_tests : is_held l ≡ records_within l count && none_twice l count
+  senders_tests = whole_test l many ∙ rw (settings, count_is)
 
 -- One sender alone is no pair.
-pub none-few : (l : List ℕ) (k : ℕ) → k ≤ 1 → noneTwice l k ≡ true
-unfolding eachTo newAmong
-none-few l zero h = refl
-none-few l (suc zero) h = refl
-none-few l (suc (suc k)) h = absurd (omega arith)
+pub none_few : (l : List ℕ) (k : ℕ) → k ≤ 1 → none_twice l k ≡ true
+unfolding each_to new_among
+none_few l zero h = refl
+none_few l (suc zero) h = refl
+none_few l (suc (suc k)) h = absurd (omega arith)
 
 -- ---- "no pair twice"
 
 -- The addresses of the first i senders have been seen, and are new.
 pub record Apart (l keys : List ℕ) (count i : ℕ) : Type 0 where
   pub few : i ≤ count
-  pub room : length keys ≡ sendersMost
-  pub are-seen : Seen keys (addressAt (sendersIn l)) i
-  pub are-new : noneTwice l i ≡ true
+  pub room : length keys ≡ senders_most
+  pub are_seen : Seen keys (address_at (senders_in l)) i
+  pub are_new : none_twice l i ≡ true
 
-pub apart_none : (l : List ℕ) (count : ℕ) → Apart l (replicate sendersMost 0) count 0
-unfolding eachTo
-apart_none l count = record { few = omega arith; room = refl; are-seen = seen_none (addressAt (sendersIn l)); are-new = refl }
+pub apart_none : (l : List ℕ) (count : ℕ) → Apart l (replicate senders_most 0) count 0
+unfolding each_to
+apart_none l count = record { few = omega arith; room = refl; are_seen = seen_none (address_at (senders_in l)); are_new = refl }
 
 module _ {l keys : List ℕ} {count i : ℕ} (so_far : Apart l keys count i) (size : Sized l count)
-    (within : recordsWithin l count ≡ true) (less : i < count) {key : ℕ} (is : key ≡ word l (place i) % half) {new : Bool} (en : new ≡ newKey keys sendersMost key) where
-  address-ok : isAddress (addressIn (word l (place i))) ≡ true
-  unfolding recordWithin
-  address-ok =
-      let here = each_at (λ k. recordWithin (word l 3) (recordAt l k)) count within i less in
-      let own = sender-facts (word l 3) (senderOf (recordAt l i)) (and_right (fits (recordAt l i)) (senderWithin (word l 3) (senderOf (recordAt l i))) here) in
+    (within : records_within l count ≡ true) (less : i < count) {key : ℕ} (is : key ≡ word l (place i) % half) {new : Bool} (en : new ≡ new_key keys senders_most key) where
+  address_ok : is_address (address_in (word l (place i))) ≡ true
+  unfolding record_within
+  address_ok =
+      let here = each_at (λ k. record_within (word l 3) (record_at l k)) count within i less in
+      let own = sender_facts (word l 3) (sender_of (record_at l i)) (and_right (fits (record_at l i)) (sender_within (word l 3) (sender_of (record_at l i))) here) in
       rw (address_word l size.many i (omega arith)) at own.address
 
-  key-is : (key ≡ key_of (addressAt (sendersIn l) i)) × Narrow (addressAt (sendersIn l) i)
-  key-is = (
-    is ∙ mod-eq_of_lt (address-short (word l (place i)) address-ok) ∙ sym (address-key (word l (place i))) ∙ ap key_of (sym (address-in l size.many i (omega arith))),
-    rw (address-in l size.many i (omega arith)) (address-narrow (word l (place i))),
+  key_is : (key ≡ key_of (address_at (senders_in l) i)) × Narrow (address_at (senders_in l) i)
+  key_is = (
+    is ∙ mod-eq_of_lt (address_short (word l (place i)) address_ok) ∙ sym (address_key (word l (place i))) ∙ ap key_of (sym (address_in_lem l size.many i (omega arith))),
+    rw (address_in_lem l size.many i (omega arith)) (address_narrow (word l (place i))),
   )
 
-  new_is : new ≡ newAmong (addressAt (sendersIn l)) i (addressAt (sendersIn l) i)
-  new_is = new-seen keys (addressAt (sendersIn l)) i key new (omega arith) key-is so_far.are-seen (rw (address-in l size.many i (omega arith)) address-ok) en
+  new_is : new ≡ new_among (address_at (senders_in l)) i (address_at (senders_in l) i)
+  new_is = new_seen keys (address_at (senders_in l)) i key new (omega arith) key_is so_far.are_seen (rw (address_in_lem l size.many i (omega arith)) address_ok) en
 
-  pub apart-not : new ≡ false → false ≡ noneTwice l count
-  apart-not e = sym (each-not (λ k. newAmong (addressAt (sendersIn l)) k (addressAt (sendersIn l) k)) count i less (sym new_is ∙ e))
+  pub apart_not : new ≡ false → false ≡ none_twice l count
+  apart_not e = sym (each_not (λ k. new_among (address_at (senders_in l)) k (address_at (senders_in l) k)) count i less (sym new_is ∙ e))
 
   pub apart_more : new ≡ true → Apart l (set keys i key) count (i + 1)
   apart_more e = record {
     few = omega arith;
     room = length-set keys i key ∙ so_far.room;
-    are-seen = seen_more keys (addressAt (sendersIn l)) i key (omega (arith, so_far.room)) key-is so_far.are-seen;
-    are-new = each_more (λ k. newAmong (addressAt (sendersIn l)) k (addressAt (sendersIn l) k)) i so_far.are-new (sym new_is ∙ e);
+    are_seen = seen_more keys (address_at (senders_in l)) i key (omega (arith, so_far.room)) key_is so_far.are_seen;
+    are_new = each_more (λ k. new_among (address_at (senders_in l)) k (address_at (senders_in l) k)) i so_far.are_new (sym new_is ∙ e);
   }

@@ -3,21 +3,21 @@ use mathlib.Core.Bool.{Bool, ◌&&◌}
 use Prim.Native.Nat.{ℕ}
 use lib.Dec.{leb}
 use borrow.Author.Tests.{le-leb, lt-leb, not-true, not-false}
-use Rattle.cut.specs.Pieces.{mostOctets}
-use Rattle.cut.specs.Cutter.{pieceWithin}
+use Rattle.cut.specs.Pieces.{most_octets}
+use Rattle.cut.specs.Cutter.{piece_within}
 use borrow.Author.Rules.{rules}
 use Rattle.cut.proofs.cutter.counted.Statement.{statement}
 use Rattle.cut.proofs.cutter.counted.Tie as tie
 
 -- What is tried before the pieces are counted, given what is said of u.
 abbrev first : ℕ → ℕ → Bool → Bool
-first n c unit = leb n mostOctets && unit && leb 1 c
+first n c unit = leb n most_octets && unit && leb 1 c
 
 is-unit-requires : tie.Need-is-unit-requires
 is-unit-requires c κs = search rules
 
 returns : tie.Need-returns
-unfolding pieceWithin
+unfolding piece_within
 returns c =
     let unit = c.before in
     let a = unit.before.args in
@@ -27,7 +27,7 @@ pieces-requires : tie.Need-pieces-requires
 pieces-requires c κs = search rules
 
 returns-2 : tie.Need-returns-2
-unfolding pieceWithin
+unfolding piece_within
 returns-2 c =
     let count = c.before in
     let unit = count.before.before in
@@ -38,7 +38,7 @@ returns-2 c =
     )
 
 returns-3 : tie.Need-returns-3
-unfolding pieceWithin
+unfolding piece_within
 returns-3 c =
     let count = c.before in
     let unit = count.before.before in

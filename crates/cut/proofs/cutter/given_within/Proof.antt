@@ -1,5 +1,5 @@
 -- Each test is that of the definition. Assumes nothing.
-use Rattle.cut.specs.Cutter.{givenWithin}
+use Rattle.cut.specs.Cutter.{given_within}
 use borrow.Author.Rules.{rules}
 use Rattle.cut.proofs.cutter.given_within.Statement.{statement}
 use Rattle.cut.proofs.cutter.given_within.Tie as tie
@@ -26,7 +26,7 @@ is-pri-requires : tie.Need-is-pri-requires
 is-pri-requires c κs = search rules
 
 returns : tie.Need-returns
-unfolding givenWithin
+unfolding given_within
 returns c =
     let code = c.before.before.before in
     simp (

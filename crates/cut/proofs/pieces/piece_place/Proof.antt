@@ -1,7 +1,7 @@
 -- Piece c starts behind c - 1 pieces. Assumes nothing.
 use mathlib.Core.Path.{◌≡◌, sym}
 use native.Mathlib.Nat.{zero-mul}
-use Rattle.cut.specs.PiecesLaws.{product-below}
+use Rattle.cut.specs.PiecesLaws.{product_below}
 use native.Mathlib.Omega.{arith}
 use borrow.Author.Rules.{rules}
 use Rattle.cut.proofs.pieces.piece_place.Statement.{statement}
@@ -17,7 +17,7 @@ cast-result : tie.Need-overflow-cast-result
 cast-result c = search rules
 
 mul-result : tie.Need-overflow-mul-result
-mul-result c = record { fits = product-below _ _ 255 65535 (omega arith) (omega arith) (omega arith) }
+mul-result c = record { fits = product_below _ _ 255 65535 (omega arith) (omega arith) (omega arith) }
 
 returns-2 : tie.Need-returns-2
 returns-2 c = search rules

@@ -32,7 +32,7 @@ div-result : tie.Need-nonzero-div-result
 div-result c = search rules
 
 returns-2 : tie.Need-returns-2
-returns-2 c = rw (c.before.less.ensures, c.before.before.own-length.ensures, c.before.before.before.message-length.ensures)
+returns-2 c = rw (c.before.less.ensures, c.before.before.own-length.ensures, c.before.before.before.message_length.ensures)
 
 pub last-unit-spec : {M : Type 1} → statement M
 last-unit-spec =

@@ -2,7 +2,7 @@
 use mathlib.Core.Path.{◌≡◌, sym, ap, ◌∙◌}
 use Prim.Native.Nat.{ℕ, ◌-◌, ◌*◌}
 use native.Mathlib.Nat.{zero-mul}
-use Rattle.cut.specs.PiecesLaws.{product-below}
+use Rattle.cut.specs.PiecesLaws.{product_below}
 use native.Mathlib.Omega.{arith}
 use Rattle.cut.specs.Possible.{unit}
 use borrow.Author.Rules.{rules}
@@ -28,7 +28,7 @@ cast-result-2 : tie.Need-overflow-cast-result-2
 cast-result-2 c = search rules
 
 mul-result : tie.Need-overflow-mul-result
-mul-result c = record { fits = product-below _ _ 255 4294967295 (omega arith) (omega arith) (omega arith) }
+mul-result c = record { fits = product_below _ _ 255 4294967295 (omega arith) (omega arith) (omega arith) }
 
 returns-2 : tie.Need-returns-2
 returns-2 c = rw c.unit.ensures

@@ -4,7 +4,7 @@ use mathlib.Core.Bool.{and-false}
 use native.Mathlib.Omega.{arith}
 use borrow.Author.Tests.{le-leb, lt-leb, not-true, not-false}
 use Rattle.cut.specs.Possible.{possible}
-use Rattle.cut.specs.PossibleLaws.{sizes-facts, judged-by-unit}
+use Rattle.cut.specs.PossibleLaws.{sizes_facts, judged_by_unit}
 use borrow.Author.Rules.{rules}
 use Rattle.cut.proofs.possible.possible.Statement.{statement}
 use Rattle.cut.proofs.possible.possible.Tie as tie
@@ -27,7 +27,7 @@ returns-3 c = simp (lt-leb _ _ c.if3.true, and-false)
 sub-piece-possible : tie.Need-overflow-sub-piece-possible
 sub-piece-possible c =
     let sized = c.before.before.before.before.before in
-    omega (arith, sizes-facts sized.before.before.args.c (sym sized.before.sizes-within.ensures ∙ not-false _ sized.if1.false))
+    omega (arith, sizes_facts sized.before.before.args.c (sym sized.before.sizes-within.ensures ∙ not-false _ sized.if1.false))
 
 cast-piece-possible : tie.Need-overflow-cast-piece-possible
 cast-piece-possible c = search rules
@@ -35,7 +35,7 @@ cast-piece-possible c = search rules
 sub-piece-possible-2 : tie.Need-overflow-sub-piece-possible-2
 sub-piece-possible-2 c =
     let sized = c.before.before.before.before.before.before in
-    omega (arith, sizes-facts sized.before.before.args.c (sym sized.before.sizes-within.ensures ∙ not-false _ sized.if1.false))
+    omega (arith, sizes_facts sized.before.before.args.c (sym sized.before.sizes-within.ensures ∙ not-false _ sized.if1.false))
 
 piece-possible-requires : tie.Need-piece-possible-requires
 piece-possible-requires c κs = search rules
@@ -46,12 +46,12 @@ returns-4 c =
     let top = c.before.before.before in
     let one = top.before.before in
     let sized = one.before.before in
-    c.piece-possible.ensures ∙ rw (
+    c.piece_possible.ensures ∙ rw (
       sym sized.before.sizes-within.ensures ∙ not-false _ sized.if1.false,
       le-leb _ _ one.if2.false,
       le-leb _ _ top.if3.false,
     )
-    (judged-by-unit sized.before.before.args.c)
+    (judged_by_unit sized.before.before.args.c)
 
 pub possible-spec : {M : Type 1} → statement M
 possible-spec =

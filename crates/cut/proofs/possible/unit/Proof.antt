@@ -11,7 +11,7 @@ message-length-requires c κs = search rules
 
 returns : tie.Need-returns
 unfolding unit
-returns c = c.message-length.ensures ∙ rw (eq-eqb _ _ c.before.if1.true)
+returns c = c.message_length.ensures ∙ rw (eq-eqb _ _ c.before.if1.true)
 
 last-unit-requires : tie.Need-last-unit-requires
 last-unit-requires c κs = search rules

@@ -1,15 +1,15 @@
 -- Each turn fills one place of the table. Assumes nothing.
 use borrow.Author.Rules.{rules}
 use Prim.Native.Nat.{◌≤◌, ◌-◌}
-use Rattle.state.specs.State.{sendersMost}
+use Rattle.state.specs.State.{senders_most}
 use Rattle.edges.proofs.calls.addresses.Statement.{statement}
 use Rattle.edges.proofs.calls.addresses.Tie as tie
 
 abbrev invariant-loop : tie.invariant-loop
-invariant-loop contents senders₀ i₀ senders i = i ≤ sendersMost
+invariant-loop contents senders₀ i₀ senders i = i ≤ senders_most
 
 abbrev decreases-loop : tie.decreases-loop
-decreases-loop contents senders₀ i₀ senders i = sendersMost - i
+decreases-loop contents senders₀ i₀ senders i = senders_most - i
 
 loop-holds : tie.Need-loop-init invariant-loop decreases-loop
 loop-holds c = search rules

@@ -1,15 +1,15 @@
 -- Each turn passes one place of the table. Assumes nothing.
 use borrow.Author.Rules.{rules}
 use Prim.Native.Nat.{◌≤◌, ◌-◌}
-use Rattle.state.specs.State.{sendersMost}
+use Rattle.state.specs.State.{senders_most}
 use Rattle.edges_lines.proofs.record.sender_lines.Statement.{statement}
 use Rattle.edges_lines.proofs.record.sender_lines.Tie as tie
 
 abbrev invariant-loop : tie.invariant-loop
-invariant-loop w count i₀ i = i ≤ sendersMost
+invariant-loop w count i₀ i = i ≤ senders_most
 
 abbrev decreases-loop : tie.decreases-loop
-decreases-loop w count i₀ i = sendersMost - i
+decreases-loop w count i₀ i = senders_most - i
 
 loop-holds : tie.Need-loop-init invariant-loop decreases-loop
 loop-holds c = search rules

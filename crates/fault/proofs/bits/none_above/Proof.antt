@@ -5,14 +5,14 @@ use native.Mathlib.Omega.{arith}
 use lib.ListN.{length, drop}
 use borrow.Author.Tests.{eq-eqb, ne_eqb}
 use borrow.Author.Rules.{rules}
-use Rattle.octets.specs.NumberLaws.{octets-bytes}
-use Rattle.fault.specs.Bits.{noneAbove}
-use Rattle.fault.specs.BitsLaws.{none_from, none-step, none_end}
+use Rattle.octets.specs.NumberLaws.{octets_bytes}
+use Rattle.fault.specs.Bits.{none_above}
+use Rattle.fault.specs.BitsLaws.{none_from, none_step, none_end}
 use Rattle.fault.proofs.bits.none_above.Statement.{statement}
 use Rattle.fault.proofs.bits.none_above.Tie as tie
 
 abbrev invariant-loop : tie.invariant-loop
-invariant-loop modules bits rest left₀ i₀ left i = (left ≤ 7) × (i ≤ length rest) × (noneAbove modules bits ≡ noneAbove left (drop i rest))
+invariant-loop modules bits rest left₀ i₀ left i = (left ≤ 7) × (i ≤ length rest) × (none_above modules bits ≡ none_above left (drop i rest))
 
 abbrev decreases-loop : tie.decreases-loop
 decreases-loop modules bits rest left₀ i₀ left i = length rest - i
@@ -28,8 +28,8 @@ loop-holds c =
     let a = c.before.before.args in (
       omega arith,
       omega arith,
-      none_from a.bits.now a.modules (octets-bytes a.bits.now (record { small = λ i. omega (arith, c.before.shared-slice-known.given i) }))
-          ∙ ap (noneAbove (a.modules % 8)) (sym c.from.ensures),
+      none_from a.bits.now a.modules (octets_bytes a.bits.now (record { small = λ i. omega (arith, c.before.shared-slice-known.given i) }))
+          ∙ ap (none_above (a.modules % 8)) (sym c.from.ensures),
     )
 
 shared-slice-read-if1 : tie.Need-shared-slice-read-if1 invariant-loop decreases-loop
@@ -45,7 +45,7 @@ returns : tie.Need-returns invariant-loop decreases-loop
 returns c =
     let l = c.before.before.before.loop in
     let rest = c.before.before.before.before.from.result.now in
-    sym (l.invariant.2 ∙ none-step rest l.left l.i (omega arith) ∙ rw (ne_eqb _ 0 c.if1.true))
+    sym (l.invariant.2 ∙ none_step rest l.left l.i (omega arith) ∙ rw (ne_eqb _ 0 c.if1.true))
 
 add-i : tie.Need-overflow-add-i invariant-loop decreases-loop
 add-i c = omega arith
@@ -60,7 +60,7 @@ loop-again c =
     let none : l.left - 8 ≡ 0 = omega (arith, l.invariant.0) in (
       omega arith,
       omega arith,
-      l.invariant.2 ∙ none-step rest l.left l.i (omega arith) ∙ rw (eq-eqb _ 0 c.if1.false, none),
+      l.invariant.2 ∙ none_step rest l.left l.i (omega arith) ∙ rw (eq-eqb _ 0 c.if1.false, none),
     )
 
 returns-2 : tie.Need-returns-2 invariant-loop decreases-loop

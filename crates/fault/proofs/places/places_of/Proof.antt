@@ -1,5 +1,5 @@
 -- Each count is read where the definition says. Assumes nothing.
-use Rattle.fault.specs.Places.{placesOf}
+use Rattle.fault.specs.Places.{places_of}
 use borrow.Author.Rules.{rules}
 use Rattle.fault.proofs.places.places_of.Statement.{statement}
 use Rattle.fault.proofs.places.places_of.Tie as tie
@@ -35,7 +35,7 @@ add-t8 : tie.Need-overflow-add-t8
 add-t8 c = search rules
 
 returns : tie.Need-returns
-unfolding placesOf
+unfolding places_of
 returns c =
     let size = c.before.before in
     rw (c.read43.ensures, c.before.read42.ensures, size.bits-size.ensures, size.before.read4.ensures)

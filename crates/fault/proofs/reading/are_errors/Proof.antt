@@ -4,15 +4,15 @@ use mathlib.Core.Path.{◌≡◌, refl, sym, ◌∙◌}
 use native.Mathlib.Omega.{arith}
 use lib.ListN.{length, drop}
 use Rattle.octets.specs.NumberLaws.{Octets}
-use Rattle.fault.specs.Section.{areErrors}
-use Rattle.fault.specs.Places.{errorsFrom}
-use Rattle.fault.specs.ErrorsLaws.{errors-none, errors-some, errors-end}
+use Rattle.fault.specs.Section.{are_errors}
+use Rattle.fault.specs.Places.{errors_from}
+use Rattle.fault.specs.ErrorsLaws.{errors_none, errors_some, errors_end}
 use Rattle.fault.proofs.reading.are_errors.Statement.{statement}
 use Rattle.fault.proofs.reading.are_errors.Tie as tie
 
 abbrev invariant-loop : tie.invariant-loop
 invariant-loop s at n next₀ left₀ next left =
-    (next + 4 * left ≤ length s) × (areErrors (errorsFrom n (drop at s)) ≡ areErrors (errorsFrom left (drop next s)))
+    (next + 4 * left ≤ length s) × (are_errors (errors_from n (drop at s)) ≡ are_errors (errors_from left (drop next s)))
 
 abbrev decreases-loop : tie.decreases-loop
 decreases-loop s at n next₀ left₀ next left = left
@@ -35,7 +35,7 @@ returns c =
     let l = known.before.before.before.loop in
     let s = known.before.before.before.before.args.s.now in
     let o : Octets s = record { small = λ i. omega (arith, known.shared-slice-known2.given i) } in
-    sym (l.invariant.1 ∙ errors-none l.left l.next s o (omega arith) c.if1.true)
+    sym (l.invariant.1 ∙ errors_none l.left l.next s o (omega arith) c.if1.true)
 
 add-next : tie.Need-overflow-add-next invariant-loop decreases-loop
 add-next c = omega arith
@@ -52,12 +52,12 @@ loop-again c =
     let l = known.before.before.before.loop in
     let s = known.before.before.before.before.args.s.now in
     let o : Octets s = record { small = λ i. omega (arith, known.shared-slice-known2.given i) } in
-    (omega arith, l.invariant.1 ∙ errors-some l.left l.next s o (omega arith) c.if1.false)
+    (omega arith, l.invariant.1 ∙ errors_some l.left l.next s o (omega arith) c.if1.false)
 
 returns-2 : tie.Need-returns-2 invariant-loop decreases-loop
 returns-2 c =
     let l = c.before.loop in
-    sym (l.invariant.1 ∙ errors-end l.left (drop l.next c.before.before.args.s.now) (omega arith))
+    sym (l.invariant.1 ∙ errors_end l.left (drop l.next c.before.before.args.s.now) (omega arith))
 
 pub are-errors-spec : {M : Type 1} → statement M
 are-errors-spec =

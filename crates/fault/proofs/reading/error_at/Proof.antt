@@ -1,6 +1,6 @@
 -- The error is read from its place, if it is counted. Assumes nothing.
 use borrow.Author.Tests.{lt-ltb, le-ltb}
-use Rattle.fault.specs.Reading.{errorAt}
+use Rattle.fault.specs.Reading.{error_at}
 use borrow.Author.Rules.{rules}
 use Rattle.fault.proofs.reading.error_at.Statement.{statement}
 use Rattle.fault.proofs.reading.error_at.Tie as tie
@@ -18,7 +18,7 @@ read4-requires-2 : tie.Need-read4-requires-2
 read4-requires-2 c κs = search rules
 
 returns : tie.Need-returns
-unfolding errorAt
+unfolding error_at
 returns c =
     let count = c.before in
     let size = count.before in
@@ -43,7 +43,7 @@ read2-requires-2 : tie.Need-read2-requires-2
 read2-requires-2 c κs = search rules
 
 returns-2 : tie.Need-returns-2
-unfolding errorAt
+unfolding error_at
 returns-2 c =
     let count = c.before.before.before in
     let size = count.before in

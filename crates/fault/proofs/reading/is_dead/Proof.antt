@@ -3,14 +3,14 @@ use Prim.Native.Nat.{◌+◌, ◌-◌, ◌%◌}
 use mathlib.Core.Path.{◌≡◌, ◌∙◌}
 use native.Mathlib.Omega.{arith}
 use borrow.Author.Tests.{le-leb, lt-leb}
-use Rattle.octets.specs.NumberLaws.{number-one}
-use Rattle.fault.specs.Reading.{deadAt}
+use Rattle.octets.specs.NumberLaws.{number_one}
+use Rattle.fault.specs.Reading.{dead_at}
 use borrow.Author.Rules.{rules}
 use Rattle.fault.proofs.reading.is_dead.Statement.{statement}
 use Rattle.fault.proofs.reading.is_dead.Tie as tie
 
 returns : tie.Need-returns
-unfolding deadAt
+unfolding dead_at
 returns c = rw c.if1.true
 
 sub-k : tie.Need-overflow-sub-k
@@ -20,7 +20,7 @@ read4-requires : tie.Need-read4-requires
 read4-requires c κs = search rules
 
 returns-2 : tie.Need-returns-2
-unfolding deadAt
+unfolding dead_at
 returns-2 c =
     let x = c.before.before.before.before.args.x in
     rw (← c.before.read4.ensures, lt-leb x c.before.read4.result (omega arith), le-leb 1 x (omega arith))
@@ -47,7 +47,7 @@ holds-requires : tie.Need-holds-requires
 holds-requires c κs = search rules
 
 returns-3 : tie.Need-returns-3
-unfolding deadAt
+unfolding dead_at
 returns-3 c =
     let x = c.before.before.before.before.before.before.args.x in
     let count = c.before.before.before in
@@ -55,7 +55,7 @@ returns-3 c =
     c.holds.ensures
     ∙ rw (
       place,
-      c.before.read1.ensures ∙ number-one _ _,
+      c.before.read1.ensures ∙ number_one _ _,
       ← count.read4.ensures,
       le-leb x count.read4.result (omega arith),
       le-leb 1 x (omega arith),

@@ -4,9 +4,9 @@ use native.Mathlib.Omega.{arith}
 use borrow.Author.Rules.{rules}
 use borrow.Author.Tests.{eq-eqb, ne_eqb}
 use Rattle.octets.specs.NumberLaws.{Octets}
-use Rattle.fault.specs.ReadingLaws.{section-by}
+use Rattle.fault.specs.ReadingLaws.{section_by}
 use Rattle.fault.specs.private.Judged.{judged}
-use Rattle.fault.specs.PlacesLaws.{rest-few, options-few, ends-judged}
+use Rattle.fault.specs.PlacesLaws.{rest_few, options_few, ends_judged}
 use Rattle.fault.proofs.reading.is_judged.Statement.{statement}
 use Rattle.fault.proofs.reading.is_judged.Tie as tie
 
@@ -19,7 +19,7 @@ add-if1 c =
     let entry = known.before in
     let s = entry.args.s.now in
     let o : Octets s = record { small = λ i. omega (arith, known.shared-slice-known.given i) } in
-    omega (arith, rest-few s o entry.args.p entry.requires, options-few s o entry.args.p entry.requires)
+    omega (arith, rest_few s o entry.args.p entry.requires, options_few s o entry.args.p entry.requires)
 
 returns : tie.Need-returns
 unfolding judged
@@ -28,7 +28,7 @@ returns c =
     let entry = known.before in
     let s = entry.args.s.now in
     let o : Octets s = record { small = λ i. omega (arith, known.shared-slice-known.given i) } in
-    sym (section-by s o ∙ rw (← ends-judged s entry.args.p entry.requires, ne_eqb _ _ c.if1.true))
+    sym (section_by s o ∙ rw (← ends_judged s entry.args.p entry.requires, ne_eqb _ _ c.if1.true))
 
 holds-rules-requires : tie.Need-holds-rules-requires
 holds-rules-requires c κs = (c.before.before.before.before.requires, omega (arith, c.if1.false))
@@ -40,7 +40,7 @@ returns-2 c =
     let entry = known.before in
     let s = entry.args.s.now in
     let o : Octets s = record { small = λ i. omega (arith, known.shared-slice-known.given i) } in
-    c.holds-rules.ensures ∙ sym (section-by s o ∙ rw (← ends-judged s entry.args.p entry.requires, eq-eqb _ _ c.before.if1.false))
+    c.holds-rules.ensures ∙ sym (section_by s o ∙ rw (← ends_judged s entry.args.p entry.requires, eq-eqb _ _ c.before.if1.false))
 
 pub is-judged-spec : {M : Type 1} → statement M
 is-judged-spec = tie.close (tie.spec cast-if1 add-if1 returns holds-rules-requires returns-2)

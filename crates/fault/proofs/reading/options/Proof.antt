@@ -1,8 +1,8 @@
 -- The run behind the option count. Assumes nothing.
 use mathlib.Core.Path.{◌∙◌}
 use borrow.Author.Rules.{rules}
-use Rattle.fault.specs.Places.{placesOf}
-use Rattle.fault.specs.Reading.{optionsOf}
+use Rattle.fault.specs.Places.{places_of}
+use Rattle.fault.specs.Reading.{options_of}
 use Rattle.fault.proofs.reading.options.Statement.{statement}
 use Rattle.fault.proofs.reading.options.Tie as tie
 
@@ -16,7 +16,7 @@ run-requires : tie.Need-run-requires
 run-requires c κs = search rules
 
 returns : tie.Need-returns
-unfolding optionsOf placesOf
+unfolding options_of places_of
 returns c = c.run.ensures ∙ rw c.before.before.places_of.ensures
 
 pub options-spec : {M : Type 1} → statement M

@@ -4,14 +4,14 @@ use mathlib.Core.Path.{◌≡◌, refl, sym, ◌∙◌}
 use native.Mathlib.Omega.{arith}
 use lib.ListN.{length, drop, get_or}
 use borrow.Author.Tests.{le-leb}
-use Rattle.fault.specs.Section.{areErrors}
-use Rattle.fault.specs.Writing.{errorsGiven}
-use Rattle.fault.specs.WritingLaws.{given-step, given-end}
+use Rattle.fault.specs.Section.{are_errors}
+use Rattle.fault.specs.Writing.{errors_given}
+use Rattle.fault.specs.WritingLaws.{given_step, given_end}
 use Rattle.fault.proofs.writing.are_errors.Statement.{statement}
 use Rattle.fault.proofs.writing.are_errors.Tie as tie
 
 abbrev invariant-loop : tie.invariant-loop
-invariant-loop numbers i₀ i = (i ≤ length numbers) × (areErrors (errorsGiven numbers) ≡ areErrors (errorsGiven (drop i numbers)))
+invariant-loop numbers i₀ i = (i ≤ length numbers) × (are_errors (errors_given numbers) ≡ are_errors (errors_given (drop i numbers)))
 
 abbrev decreases-loop : tie.decreases-loop
 decreases-loop numbers i₀ i = length numbers - i
@@ -33,7 +33,7 @@ returns c =
     let known = c.before in
     let l = known.before.before.loop in
     let numbers = known.before.before.before.args.numbers.now in
-    let step = given-step numbers l.i (omega arith) (omega (arith, known.shared-slice-known.given l.i)) (omega (arith, known.shared-slice-known.given (suc l.i))) in
+    let step = given_step numbers l.i (omega arith) (omega (arith, known.shared-slice-known.given l.i)) (omega (arith, known.shared-slice-known.given (suc l.i))) in
     sym (l.invariant.1 ∙ step ∙ rw c.if1.true)
 
 add-i : tie.Need-overflow-add-i invariant-loop decreases-loop
@@ -47,12 +47,12 @@ loop-again c =
     let known = c.before in
     let l = known.before.before.loop in
     let numbers = known.before.before.before.args.numbers.now in
-    let step = given-step numbers l.i (omega arith) (omega (arith, known.shared-slice-known.given l.i)) (omega (arith, known.shared-slice-known.given (suc l.i))) in
+    let step = given_step numbers l.i (omega arith) (omega (arith, known.shared-slice-known.given l.i)) (omega (arith, known.shared-slice-known.given (suc l.i))) in
     let some : 1 ≤ get_or numbers l.i 0 = omega (arith, c.if1.false) in
     (omega arith, l.invariant.1 ∙ step ∙ rw (le-leb 1 (get_or numbers l.i 0) some))
 
 returns-2 : tie.Need-returns-2 invariant-loop decreases-loop
-returns-2 c = let l = c.before.loop in sym (l.invariant.1 ∙ given-end c.before.before.args.numbers.now l.i (omega arith))
+returns-2 c = let l = c.before.loop in sym (l.invariant.1 ∙ given_end c.before.before.args.numbers.now l.i (omega arith))
 
 pub are-errors-spec : {M : Type 1} → statement M
 are-errors-spec =

@@ -6,7 +6,7 @@ use lib.Dec.{eqb, leb}
 use lib.ListN.{length}
 use borrow.Author.Rules.{rules}
 use borrow.Author.Tests.{not-true, not-false}
-use Rattle.fault.specs.Writing.{keepsRules}
+use Rattle.fault.specs.Writing.{keeps_rules}
 use Rattle.fault.proofs.writing.keeps_rules.Statement.{statement}
 use Rattle.fault.proofs.writing.keeps_rules.Tie as tie
 
@@ -18,7 +18,7 @@ bits-size-requires : tie.Need-bits-size-requires
 bits-size-requires c κs = search rules
 
 returns : tie.Need-returns
-unfolding keepsRules
+unfolding keeps_rules
 returns c =
     let size = c.before in
     let a = size.before.before.before.args in
@@ -28,7 +28,7 @@ none-above-requires : tie.Need-none-above-requires
 none-above-requires c κs = search rules
 
 returns-2 : tie.Need-returns-2
-unfolding keepsRules
+unfolding keeps_rules
 returns-2 c =
     let above = c.before in
     let size = above.before.before in
@@ -44,7 +44,7 @@ are-errors-requires : tie.Need-are-errors-requires
 are-errors-requires c κs = search rules
 
 returns-3 : tie.Need-returns-3
-unfolding keepsRules
+unfolding keeps_rules
 returns-3 c =
     let above = c.before.before in
     let size = above.before.before in

@@ -1,6 +1,6 @@
 -- Three runs, one behind the other. Assumes nothing.
 use mathlib.Core.Path.{◌∙◌}
-use Rattle.fault.specs.WritingLaws.{back-laid}
+use Rattle.fault.specs.WritingLaws.{back_laid}
 use borrow.Author.Rules.{rules}
 use Rattle.fault.proofs.writing.write_back.Statement.{statement}
 use Rattle.fault.proofs.writing.write_back.Tie as tie
@@ -35,7 +35,7 @@ returns c =
     let numbers = count.before.before.before.before in
     let entry = numbers.before.before.before.before.before in
     let a = entry.args in
-    c.before.before.lay.ensures ∙ rw (count.write4.ensures, numbers.write-numbers.ensures) (back-laid a.buffer.now a.at a.errors.now a.options.now entry.requires.0)
+    c.before.before.lay.ensures ∙ rw (count.write4.ensures, numbers.write-numbers.ensures) (back_laid a.buffer.now a.at a.errors.now a.options.now entry.requires.0)
 
 pub write-back-spec : {M : Type 1} → statement M
 write-back-spec =

@@ -1,7 +1,7 @@
 -- Four runs, one behind the other. Assumes nothing.
 use mathlib.Core.Path.{◌≡◌, ◌∙◌}
 use lib.ListN.{length}
-use Rattle.fault.specs.WritingLaws.{front-laid}
+use Rattle.fault.specs.WritingLaws.{front_laid}
 use borrow.Author.Rules.{rules}
 use Rattle.fault.proofs.writing.write_front.Statement.{statement}
 use Rattle.fault.proofs.writing.write_front.Tie as tie
@@ -39,7 +39,7 @@ returns c =
     let a = entry.args in
     let eight : length a.t5 ≡ 8 = search (rules, entry.well-formed.1.1.1.1.0) in
     c.before.before.lay2.ensures
-    ∙ rw (count.write42.ensures, bits.lay.ensures, modules.write4.ensures) (front-laid a.buffer.now a.modules a.bits.now a.errors a.t5 eight entry.requires)
+    ∙ rw (count.write42.ensures, bits.lay.ensures, modules.write4.ensures) (front_laid a.buffer.now a.modules a.bits.now a.errors a.t5 eight entry.requires)
 
 pub write-front-spec : {M : Type 1} → statement M
 write-front-spec =

@@ -5,19 +5,19 @@ use native.Mathlib.Omega.{arith}
 use lib.ListN.{length, take, get_or, length-set}
 use lib.Seq.{take-length}
 use Rattle.octets.specs.Run.{laid}
-use Rattle.fault.specs.Section.{pairsOf}
-use Rattle.fault.specs.WritingLaws.{pairs-none, pairs_next, two-octets}
+use Rattle.fault.specs.Section.{pairs_of}
+use Rattle.fault.specs.WritingLaws.{pairs_none, pairs_next, two_octets}
 use Rattle.fault.proofs.writing.write_numbers.Statement.{statement}
 use Rattle.fault.proofs.writing.write_numbers.Tie as tie
 
 abbrev invariant-loop : tie.invariant-loop
-invariant-loop s₀ at numbers i₀ s i = (i ≤ length numbers) × (s ≡ laid s₀ at (pairsOf (take i numbers))) × (length s ≡ length s₀)
+invariant-loop s₀ at numbers i₀ s i = (i ≤ length numbers) × (s ≡ laid s₀ at (pairs_of (take i numbers))) × (length s ≡ length s₀)
 
 abbrev decreases-loop : tie.decreases-loop
 decreases-loop s₀ at numbers i₀ s i = length numbers - i
 
 loop-holds : tie.Need-loop-init invariant-loop decreases-loop
-loop-holds c = let a = c.args in (omega arith, pairs-none a.s.now a.at a.numbers.now (omega (arith, c.requires)), refl)
+loop-holds c = let a = c.args in (omega arith, pairs_none a.s.now a.at a.numbers.now (omega (arith, c.requires)), refl)
 
 mul-x : tie.Need-overflow-mul-x invariant-loop decreases-loop
 mul-x c = omega (arith, c.before.before.well-formed)
@@ -59,7 +59,7 @@ loop-again c =
     let a = entry.args in
     let numbers = a.numbers.now in (
       omega arith,
-      two-octets l.s (a.at + 2 * l.i) (get_or numbers l.i 0) (omega (arith, c.shared-slice-known.given l.i)) (omega (arith, entry.requires, l.invariant.2))
+      two_octets l.s (a.at + 2 * l.i) (get_or numbers l.i 0) (omega (arith, c.shared-slice-known.given l.i)) (omega (arith, entry.requires, l.invariant.2))
           ∙ rw l.invariant.1 (pairs_next a.s.now a.at numbers l.i (omega arith) entry.requires),
       simp length-set l.invariant.2,
     )

@@ -1,7 +1,7 @@
 -- 23, then 24, and what is written if neither applies. Assumes nothing.
 use native.Mathlib.Omega.{arith}
 use borrow.Author.Tests.{not-true, not-false}
-use Rattle.fault.specs.WritingLaws.{short-is, size_fits, broken-is, keeps_given, room-given, size_few, written_is}
+use Rattle.fault.specs.WritingLaws.{short_is, size_fits, broken_is, keeps_given, room_given, size_few, written_is}
 use borrow.Author.Rules.{rules}
 use Rattle.fault.proofs.writing.write_section.Statement.{statement}
 use Rattle.fault.proofs.writing.write_section.Tie as tie
@@ -16,7 +16,7 @@ returns : tie.Need-returns
 returns c =
     let short = c.before in
     let a = short.before.before.before.before.before.before.args in
-    short-is a.modules a.bits.now a.errors.now a.name a.options.now a.buffer.now _ short.before.bits-size.ensures _ short.is-short.ensures c.if1.true
+    short_is a.modules a.bits.now a.errors.now a.name a.options.now a.buffer.now _ short.before.bits-size.ensures _ short.is-short.ensures c.if1.true
 
 add-size : tie.Need-overflow-add-size
 add-size c = search rules
@@ -41,7 +41,7 @@ returns-2 c =
     let keeps = c.before in
     let short = keeps.before.before in
     let a = short.before.before.before.before.before.before.args in
-    broken-is a.modules a.bits.now a.errors.now a.name a.options.now a.buffer.now _ short.before.bits-size.ensures _ short.is-short.ensures keeps.before.if1.false
+    broken_is a.modules a.bits.now a.errors.now a.name a.options.now a.buffer.now _ short.before.bits-size.ensures _ short.is-short.ensures keeps.before.if1.false
     _ keeps.keeps-rules.ensures (not-true keeps.keeps-rules.result c.if2.true)
 
 write-parts-requires : tie.Need-write-parts-requires
@@ -52,7 +52,7 @@ write-parts-requires c κs =
     let short-not = keeps.before.if1.false in
     let holds = not-false keeps.keeps-rules.result c.before.if2.false in (
       keeps_given a.modules a.bits.now a.errors.now a.name a.options.now a.buffer.now _ short.before.bits-size.ensures _ short.is-short.ensures short-not _ keeps.keeps-rules.ensures holds,
-      room-given a.modules a.bits.now a.errors.now a.name a.options.now a.buffer.now _ short.before.bits-size.ensures _ short.is-short.ensures short-not _ keeps.keeps-rules.ensures holds,
+      room_given a.modules a.bits.now a.errors.now a.name a.options.now a.buffer.now _ short.before.bits-size.ensures _ short.is-short.ensures short-not _ keeps.keeps-rules.ensures holds,
     )
 
 cast-t20 : tie.Need-overflow-cast-t20

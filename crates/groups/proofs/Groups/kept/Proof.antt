@@ -3,19 +3,19 @@ use Prim.Native.Nat.{◌-◌, ◌≤◌}
 use mathlib.Core.Path.{◌≡◌, refl}
 use native.Mathlib.Numerals.{add-one}
 use native.Mathlib.Omega.{arith}
-use Rattle.groups.specs.Groups.{groupsMost, keptList}
+use Rattle.groups.specs.Groups.{groups_most, kept_list}
 use borrow.Author.Rules.{rules}
 use Rattle.groups.proofs.Groups.kept.Statement.{statement}
 use Rattle.groups.proofs.Groups.kept.Tie as tie
 
 abbrev invariant-loop : tie.invariant-loop
-invariant-loop self kept₀ i₀ kept i = (i ≤ groupsMost) × (kept ≡ record { count = self.count; list = keptList self i })
+invariant-loop self kept₀ i₀ kept i = (i ≤ groups_most) × (kept ≡ record { count = self.count; list = kept_list self i })
 
 abbrev decreases-loop : tie.decreases-loop
-decreases-loop self kept₀ i₀ kept i = groupsMost - i
+decreases-loop self kept₀ i₀ kept i = groups_most - i
 
 loop-holds : tie.Need-loop-init invariant-loop decreases-loop
-unfolding keptList
+unfolding kept_list
 loop-holds c = (omega arith, refl)
 
 cast-loop : tie.Need-overflow-cast-loop invariant-loop decreases-loop
@@ -37,7 +37,7 @@ loop-less : tie.Need-loop-smaller invariant-loop decreases-loop
 loop-less c = omega arith
 
 loop-again : tie.Need-loop-preserved invariant-loop decreases-loop
-unfolding keptList
+unfolding kept_list
 loop-again c =
     let l = c.before.before.loop in
     (omega arith, rw (add-one l.i, l.invariant.1, c.kept_at.ensures))
@@ -45,7 +45,7 @@ loop-again c =
 returns : tie.Need-returns invariant-loop decreases-loop
 returns c =
     let l = c.before.loop in
-    let z : l.i ≡ groupsMost = omega arith in
+    let z : l.i ≡ groups_most = omega arith in
     rw z at l.invariant.1
 
 pub kept-spec : {M : Type 1} → statement M

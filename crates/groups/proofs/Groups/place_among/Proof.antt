@@ -5,22 +5,22 @@ use native.Mathlib.Numerals.{add-one}
 use native.Mathlib.Omega.{arith}
 use lib.Dec.{eqb}
 use borrow.Author.Tests.{eq-eqb, ne_eqb}
-use Rattle.octets.specs.FirstPlace.{firstPlace}
+use Rattle.octets.specs.FirstPlace.{first_place}
 use Rattle.octets.specs.FirstPlaceLaws.{place_here, place_none}
 use Rattle.groups.specs.declared.Group.{Group}
-use Rattle.groups.specs.Groups.{number_at, placeAmong}
+use Rattle.groups.specs.Groups.{number_at, place_among}
 use borrow.Author.Rules.{rules}
 use Rattle.groups.proofs.Groups.place_among.Statement.{statement}
 use Rattle.groups.proofs.Groups.place_among.Tie as tie
 
 abbrev invariant-loop : tie.invariant-loop
-invariant-loop self k group i₀ i = (i ≤ k) × (placeAmong (number_at self) i group.0 ≡ i)
+invariant-loop self k group i₀ i = (i ≤ k) × (place_among (number_at self) i group.0 ≡ i)
 
 abbrev decreases-loop : tie.decreases-loop
 decreases-loop self k group i₀ i = k - i
 
 loop-holds : tie.Need-loop-init invariant-loop decreases-loop
-unfolding firstPlace
+unfolding first_place
 loop-holds c = (omega arith, refl)
 
 at-requires : tie.Need-at-requires invariant-loop decreases-loop

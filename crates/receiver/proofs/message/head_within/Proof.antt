@@ -1,5 +1,5 @@
 -- Each test is that of the definition. Assumes nothing.
-use Rattle.rules.specs.calls.Message.{headWithin}
+use Rattle.rules.specs.calls.Message.{head_within}
 use borrow.Author.Rules.{rules}
 use Rattle.receiver.proofs.message.head_within.Statement.{statement}
 use Rattle.receiver.proofs.message.head_within.Tie as tie
@@ -17,7 +17,7 @@ within-requires : tie.Need-within-requires
 within-requires c κs = search rules
 
 returns : tie.Need-returns
-unfolding headWithin
+unfolding head_within
 returns c =
     simp (
       c.before.before.before.common-within.ensures,

@@ -17,7 +17,7 @@ cast-t8 : tie.Need-overflow-cast-t8
 cast-t8 c = search rules
 
 returns-2 : tie.Need-returns-2
-returns-2 c = rw (ne_eqb _ _ c.before.if1.false, c.message-length.ensures)
+returns-2 c = rw (ne_eqb _ _ c.before.if1.false, c.message_length.ensures)
 
 pub lies-spec : {M : Type 1} → statement M
 lies-spec = tie.close (tie.spec returns mul-t6 message-length-requires cast-t8 returns-2)

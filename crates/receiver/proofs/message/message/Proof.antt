@@ -1,7 +1,7 @@
 -- One pass over the table, two judges, and what an admitted PDU does. Assumes nothing.
 use native.Mathlib.Omega.{arith}
-use Rattle.rules.specs.calls.MessageLaws.{pass-refused, pass-place, pass-late, pass-taken}
-use Rattle.rules.specs.calls.Message.{refused, withSender}
+use Rattle.rules.specs.calls.MessageLaws.{pass_refused, pass_place, pass_late, pass_taken}
+use Rattle.rules.specs.calls.Message.{refused, with_sender}
 use borrow.Author.Rules.{rules}
 use Rattle.receiver.proofs.message.message.Statement.{statement}
 use Rattle.receiver.proofs.message.message.Tie as tie
@@ -25,7 +25,7 @@ returns c =
     let l = k.before in
     let head = l.before.before in
     let a = head.before.before.before.args in
-    pass-refused a.t1 a.storage.now a.packet.now _ _ _ head.read_head.ensures l.before.of.ensures l.look.ensures _ k.packet-number.ensures c.if1.true
+    pass_refused a.t1 a.storage.now a.packet.now _ _ _ head.read_head.ensures l.before.of.ensures l.look.ensures _ k.packet-number.ensures c.if1.true
 
 cast-s : tie.Need-overflow-cast-s
 cast-s c = search rules
@@ -39,7 +39,7 @@ element-copy-out-s c =
     let l = k.before in
     let head = l.before.before in
     let a = head.before.before.before.args in
-    pass-place a.t1 a.storage.now a.packet.now _ _ _ head.read_head.ensures l.before.of.ensures l.look.ensures _ k.packet-number.ensures c.if1.false
+    pass_place a.t1 a.storage.now a.packet.now _ _ _ head.read_head.ensures l.before.of.ensures l.look.ensures _ k.packet-number.ensures c.if1.false
 
 admit-requires : tie.Need-admit-requires
 admit-requires c κs = search rules
@@ -54,7 +54,7 @@ returns-2 c =
     let l = k.before in
     let head = l.before.before in
     let a = head.before.before.before.args in
-    pass-late a.t1 a.storage.now a.packet.now _ _ _ head.read_head.ensures l.before.of.ensures l.look.ensures _ k.packet-number.ensures c.before.before.before.before.if1.false _ c.before.before.admit.ensures _ c.before.refusal.ensures c.if2.true
+    pass_late a.t1 a.storage.now a.packet.now _ _ _ head.read_head.ensures l.before.of.ensures l.look.ensures _ k.packet-number.ensures c.before.before.before.before.if1.false _ c.before.before.admit.ensures _ c.before.refusal.ensures c.if2.true
 
 store-requires : tie.Need-store-requires
 store-requires c κs = search rules
@@ -68,7 +68,7 @@ cast-next c =
     let l = k.before in
     let head = l.before.before in
     let a = head.before.before.before.args in
-    omega (arith, pass-place a.t1 a.storage.now a.packet.now _ _ _ head.read_head.ensures l.before.of.ensures l.look.ensures _ k.packet-number.ensures c.before.before.before.before.before.before.before.before.before.before.before.if1.false)
+    omega (arith, pass_place a.t1 a.storage.now a.packet.now _ _ _ head.read_head.ensures l.before.of.ensures l.look.ensures _ k.packet-number.ensures c.before.before.before.before.before.before.before.before.before.before.before.if1.false)
 
 mul_next : tie.Need-overflow-mul-next
 mul_next c =
@@ -76,7 +76,7 @@ mul_next c =
     let l = k.before in
     let head = l.before.before in
     let a = head.before.before.before.args in
-    omega (arith, pass-place a.t1 a.storage.now a.packet.now _ _ _ head.read_head.ensures l.before.of.ensures l.look.ensures _ k.packet-number.ensures c.before.before.before.before.before.before.before.before.before.before.before.if1.false)
+    omega (arith, pass_place a.t1 a.storage.now a.packet.now _ _ _ head.read_head.ensures l.before.of.ensures l.look.ensures _ k.packet-number.ensures c.before.before.before.before.before.before.before.before.before.before.before.if1.false)
 
 element-set-from-next : tie.Need-element-set-from-next
 element-set-from-next c =
@@ -84,13 +84,13 @@ element-set-from-next c =
     let l = k.before in
     let head = l.before.before in
     let a = head.before.before.before.args in
-    pass-place a.t1 a.storage.now a.packet.now _ _ _ head.read_head.ensures l.before.of.ensures l.look.ensures _ k.packet-number.ensures c.before.before.before.before.before.before.before.before.before.before.before.if1.false
+    pass_place a.t1 a.storage.now a.packet.now _ _ _ head.read_head.ensures l.before.of.ensures l.look.ensures _ k.packet-number.ensures c.before.before.before.before.before.before.before.before.before.before.before.if1.false
 
 same_length : tie.Need-same-length
 same_length c = search rules
 
 returns-3 : tie.Need-returns-3
-unfolding withSender
+unfolding with_sender
 returns-3 c =
     let k = c.before.before.before.before.before.before.before.before.before.before.before.before in
     let l = k.before in
@@ -99,7 +99,7 @@ returns-3 c =
     let z = c.before.before.before.before.before.before.before.before.before.before.before.if1.false in
     let late = c.before.before.before.before.before.before.before in
     let none = late.if2.false in
-    pass-taken a.t1 a.storage.now a.packet.now _ _ _ head.read_head.ensures l.before.of.ensures l.look.ensures _ k.packet-number.ensures z _ late.before.before.admit.ensures _ late.before.refusal.ensures none _ _ c.where_to.ensures c.before.before.before.before.before.store.ensures
+    pass_taken a.t1 a.storage.now a.packet.now _ _ _ head.read_head.ensures l.before.of.ensures l.look.ensures _ k.packet-number.ensures z _ late.before.before.admit.ensures _ late.before.refusal.ensures none _ _ c.where_to.ensures c.before.before.before.before.before.store.ensures
 
 pub message-spec : {M : Type 1} → statement M
 message-spec =

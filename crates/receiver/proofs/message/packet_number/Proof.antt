@@ -30,15 +30,15 @@ head-within-requires c κs = search rules
 
 returns-4 : tie.Need-returns-4
 unfolding first
-returns-4 c = simp (c.before.before.before.before.before.if1.false, eq-eqb _ _ c.before.before.before.before.if2.false, sym c.before.before.before.length-outside.ensures ∙ c.before.before.if3.false, ap not (sym c.before.head-within.ensures) ∙ c.if4.true)
+returns-4 c = simp (c.before.before.before.before.before.if1.false, eq-eqb _ _ c.before.before.before.before.if2.false, sym c.before.before.before.length-outside.ensures ∙ c.before.before.if3.false, ap not (sym c.before.head_within.ensures) ∙ c.if4.true)
 
 returns-5 : tie.Need-returns-5
 unfolding first
-returns-5 c = simp (c.before.before.before.before.before.before.if1.false, eq-eqb _ _ c.before.before.before.before.before.if2.false, sym c.before.before.before.before.length-outside.ensures ∙ c.before.before.before.if3.false, ap not (sym c.before.before.head-within.ensures) ∙ c.before.if4.false, le-leb _ _ c.if5.true)
+returns-5 c = simp (c.before.before.before.before.before.before.if1.false, eq-eqb _ _ c.before.before.before.before.before.if2.false, sym c.before.before.before.before.length-outside.ensures ∙ c.before.before.before.if3.false, ap not (sym c.before.before.head_within.ensures) ∙ c.before.if4.false, le-leb _ _ c.if5.true)
 
 returns-6 : tie.Need-returns-6
 unfolding first
-returns-6 c = simp (c.before.before.before.before.before.before.if1.false, eq-eqb _ _ c.before.before.before.before.before.if2.false, sym c.before.before.before.before.length-outside.ensures ∙ c.before.before.before.if3.false, ap not (sym c.before.before.head-within.ensures) ∙ c.before.if4.false, lt-leb _ _ c.if5.false)
+returns-6 c = simp (c.before.before.before.before.before.before.if1.false, eq-eqb _ _ c.before.before.before.before.before.if2.false, sym c.before.before.before.before.length-outside.ensures ∙ c.before.before.before.if3.false, ap not (sym c.before.before.head_within.ensures) ∙ c.before.if4.false, lt-leb _ _ c.if5.false)
 
 pub packet-number-spec : {M : Type 1} → statement M
 packet-number-spec =

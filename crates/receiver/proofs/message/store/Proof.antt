@@ -2,8 +2,8 @@
 use mathlib.Core.Path.{◌∙◌}
 use native.Mathlib.Omega.{arith}
 use borrow.Author.Tests.{eq-eqb, ne_eqb}
-use Rattle.cut.specs.PossibleLaws.{place-most}
-use Rattle.rules.specs.calls.Message.{storageAfter}
+use Rattle.cut.specs.PossibleLaws.{place_most}
+use Rattle.rules.specs.calls.Message.{storage_after}
 use borrow.Author.Rules.{rules}
 use Rattle.receiver.proofs.message.store.Statement.{statement}
 use Rattle.receiver.proofs.message.store.Tie as tie
@@ -17,7 +17,7 @@ own-place-requires c κs = search rules
 add_start : tie.Need-overflow-add-start
 add_start c =
     let entry = c.before.before.before.before.before.before in
-    omega (arith, c.own-place.ensures, place-most entry.args.h.cut (omega arith) (omega arith) (omega arith))
+    omega (arith, c.own-place.ensures, place_most entry.args.h.cut (omega arith) (omega arith) (omega arith))
 
 own-length-requires : tie.Need-own-length-requires
 own-length-requires c κs = search rules
@@ -35,7 +35,7 @@ same_length : tie.Need-same-length
 same_length c = search rules
 
 returns : tie.Need-returns
-unfolding storageAfter
+unfolding storage_after
 returns c =
     let laid = c.before.before in
     let part = laid.before in
@@ -44,7 +44,7 @@ returns c =
     laid.lay.ensures ∙ rw (ne_eqb _ _ found.before.if1.true, part.run.ensures, own.own-length.ensures, found.own-place.ensures)
 
 returns-2 : tie.Need-returns-2
-unfolding storageAfter
+unfolding storage_after
 returns-2 c = rw (eq-eqb _ _ c.if1.false)
 
 pub store_spec : {M : Type 1} → statement M

@@ -8,28 +8,28 @@ use lib.ListN.{length, take, drop, length-take, length-drop}
 use borrow.Author.Tests.{le-leb, lt-leb}
 use Rattle.octets.specs.Run.{run}
 use Rattle.octets.specs.RunLaws.{length_run}
-use Rattle.octets.specs.Split.{lt-or-le}
-use Rattle.rules.specs.calls.Part.{storedPart}
+use Rattle.octets.specs.Split.{lt_or_le}
+use Rattle.rules.specs.calls.Part.{stored_part}
 use borrow.Author.Rules.{rules}
 use Rattle.receiver.proofs.part.stored_part.Statement.{statement}
 use Rattle.receiver.proofs.part.stored_part.Tie as tie
 
 module _ (s : List ℕ) (start n : ℕ) where
-  short : length (run start n s) < n → [] ≡ storedPart s start n
-  unfolding storedPart
+  short : length (run start n s) < n → [] ≡ stored_part s start n
+  unfolding stored_part
   short h = ⊎_elim
       (λ (l : length s < start + n). rw (lt-leb (start + n) (length s) l))
       (λ (l : start + n ≤ length s). absurd (omega (arith, length_run start n s l)))
-      (lt-or-le (length s) (start + n))
+      (lt_or_le (length s) (start + n))
 
-  whole : n ≤ length (run start n s) → run start n s ≡ storedPart s start n
-  unfolding storedPart run
+  whole : n ≤ length (run start n s) → run start n s ≡ stored_part s start n
+  unfolding stored_part run
   whole h = ⊎_elim
       (λ (l : length s < start + n).
       let none : n ≡ 0 = omega (arith, simp (length-take, length-drop) at h) in
       rw (lt-leb (start + n) (length s) l) (ap (λ (k : ℕ). take k (drop start s)) none))
       (λ (l : start + n ≤ length s). rw (le-leb (start + n) (length s) l))
-      (lt-or-le (length s) (start + n))
+      (lt_or_le (length s) (start + n))
 
 run-requires : tie.Need-run-requires
 run-requires c κs = search rules

@@ -1,21 +1,21 @@
 -- What becomes of the open message when another comes: the answers of these listings are those that stand in them, computed. Assumes nothing.
 use Rattle.std.specs.Prelude.{◌≡◌, refl, true}
 use Rattle.std.specs.Int.Count.{ones}
-use Rattle.rules.specs.pasts.Listings.{dropped, newcomer-of-one, open-message, came-round}
+use Rattle.rules.specs.pasts.Listings.{dropped, newcomer_of_one, open_message, came_round}
 use Rattle.rules.specs.pasts.listed.Computing.{kept}
 
-pub dropped-kept : kept dropped ≡ true
+pub dropped_kept : kept dropped ≡ true
 unfolding kept ones
-dropped-kept = refl {a = true}
+dropped_kept = refl {a = true}
 
-pub newcomer-of-one-kept : kept newcomer-of-one ≡ true
+pub newcomer_of_one_kept : kept newcomer_of_one ≡ true
 unfolding kept ones
-newcomer-of-one-kept = refl {a = true}
+newcomer_of_one_kept = refl {a = true}
 
-pub open-message-kept : kept open-message ≡ true
+pub open_message_kept : kept open_message ≡ true
 unfolding kept ones
-open-message-kept = refl {a = true}
+open_message_kept = refl {a = true}
 
-pub came-round-kept : kept came-round ≡ true
+pub came_round_kept : kept came_round ≡ true
 unfolding kept ones
-came-round-kept = refl {a = true}
+came_round_kept = refl {a = true}

@@ -1,21 +1,21 @@
 -- Packets to groups: the answers of these listings are those that stand in them, computed. Assumes nothing.
 use Rattle.std.specs.Prelude.{◌≡◌, refl, true}
 use Rattle.std.specs.Int.Count.{ones}
-use Rattle.rules.specs.pasts.Listings.{group-setups, group-places, group-tables, group-order}
+use Rattle.rules.specs.pasts.Listings.{group_setups, group_places, group_tables, group_order}
 use Rattle.rules.specs.pasts.listed.Computing.{kept}
 
-pub group-setups-kept : kept group-setups ≡ true
+pub group_setups_kept : kept group_setups ≡ true
 unfolding kept ones
-group-setups-kept = refl {a = true}
+group_setups_kept = refl {a = true}
 
-pub group-places-kept : kept group-places ≡ true
+pub group_places_kept : kept group_places ≡ true
 unfolding kept ones
-group-places-kept = refl {a = true}
+group_places_kept = refl {a = true}
 
-pub group-tables-kept : kept group-tables ≡ true
+pub group_tables_kept : kept group_tables ≡ true
 unfolding kept ones
-group-tables-kept = refl {a = true}
+group_tables_kept = refl {a = true}
 
-pub group-order-kept : kept group-order ≡ true
+pub group_order_kept : kept group_order ≡ true
 unfolding kept ones
-group-order-kept = refl {a = true}
+group_order_kept = refl {a = true}

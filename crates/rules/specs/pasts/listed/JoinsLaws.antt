@@ -1,33 +1,33 @@
 -- Pieces that are joined, and the question: the answers of these listings are those that stand in them, computed. Assumes nothing.
 use Rattle.std.specs.Prelude.{◌≡◌, refl, true}
 use Rattle.std.specs.Int.Count.{ones}
-use Rattle.rules.specs.pasts.Listings.{the-listing, any_order, twelve-pieces, two-senders, empty-part, lowest-missing, first-open}
+use Rattle.rules.specs.pasts.Listings.{the_listing, any_order, twelve_pieces, two_senders, empty_part, lowest_missing, first_open}
 use Rattle.rules.specs.pasts.listed.Computing.{kept}
 
-pub the-listing-kept : kept the-listing ≡ true
+pub the_listing_kept : kept the_listing ≡ true
 unfolding kept ones
-the-listing-kept = refl {a = true}
+the_listing_kept = refl {a = true}
 
-pub any-order-kept : kept any_order ≡ true
+pub any_order_kept : kept any_order ≡ true
 unfolding kept ones
-any-order-kept = refl {a = true}
+any_order_kept = refl {a = true}
 
-pub twelve-pieces-kept : kept twelve-pieces ≡ true
+pub twelve_pieces_kept : kept twelve_pieces ≡ true
 unfolding kept ones
-twelve-pieces-kept = refl {a = true}
+twelve_pieces_kept = refl {a = true}
 
-pub two-senders-kept : kept two-senders ≡ true
+pub two_senders_kept : kept two_senders ≡ true
 unfolding kept ones
-two-senders-kept = refl {a = true}
+two_senders_kept = refl {a = true}
 
-pub empty-part-kept : kept empty-part ≡ true
+pub empty_part_kept : kept empty_part ≡ true
 unfolding kept ones
-empty-part-kept = refl {a = true}
+empty_part_kept = refl {a = true}
 
-pub lowest-missing-kept : kept lowest-missing ≡ true
+pub lowest_missing_kept : kept lowest_missing ≡ true
 unfolding kept ones
-lowest-missing-kept = refl {a = true}
+lowest_missing_kept = refl {a = true}
 
-pub first-open-kept : kept first-open ≡ true
+pub first_open_kept : kept first_open ≡ true
 unfolding kept ones
-first-open-kept = refl {a = true}
+first_open_kept = refl {a = true}

@@ -1,33 +1,33 @@
 -- What a packet must be: the answers of these listings are those that stand in them, computed. Assumes nothing.
 use Rattle.std.specs.Prelude.{◌≡◌, refl, true}
 use Rattle.std.specs.Int.Count.{ones}
-use Rattle.rules.specs.pasts.Listings.{out_of_range, not-registered, lowest-number, message-length, packet-length, piece-length, cut-not-possible}
+use Rattle.rules.specs.pasts.Listings.{out_of_range, not_registered, lowest_number, message_length, packet_length, piece_length, cut_not_possible}
 use Rattle.rules.specs.pasts.listed.Computing.{kept}
 
-pub out-of-range-kept : kept out_of_range ≡ true
+pub out_of_range_kept : kept out_of_range ≡ true
 unfolding kept ones
-out-of-range-kept = refl {a = true}
+out_of_range_kept = refl {a = true}
 
-pub not-registered-kept : kept not-registered ≡ true
+pub not_registered_kept : kept not_registered ≡ true
 unfolding kept ones
-not-registered-kept = refl {a = true}
+not_registered_kept = refl {a = true}
 
-pub lowest-number-kept : kept lowest-number ≡ true
+pub lowest_number_kept : kept lowest_number ≡ true
 unfolding kept ones
-lowest-number-kept = refl {a = true}
+lowest_number_kept = refl {a = true}
 
-pub message-length-kept : kept message-length ≡ true
+pub message_length_kept : kept message_length ≡ true
 unfolding kept ones
-message-length-kept = refl {a = true}
+message_length_kept = refl {a = true}
 
-pub packet-length-kept : kept packet-length ≡ true
+pub packet_length_kept : kept packet_length ≡ true
 unfolding kept ones
-packet-length-kept = refl {a = true}
+packet_length_kept = refl {a = true}
 
-pub piece-length-kept : kept piece-length ≡ true
+pub piece_length_kept : kept piece_length ≡ true
 unfolding kept ones
-piece-length-kept = refl {a = true}
+piece_length_kept = refl {a = true}
 
-pub cut-not-possible-kept : kept cut-not-possible ≡ true
+pub cut_not_possible_kept : kept cut_not_possible ≡ true
 unfolding kept ones
-cut-not-possible-kept = refl {a = true}
+cut_not_possible_kept = refl {a = true}

@@ -1,21 +1,21 @@
 -- What setup answers, and that its arguments are those given: the answers of these listings are those that stand in them, computed. Assumes nothing.
 use Rattle.std.specs.Prelude.{◌≡◌, refl, true}
 use Rattle.std.specs.Int.Count.{ones}
-use Rattle.rules.specs.pasts.Listings.{setup-limits, refused-setup, mode-as-given, n1-as-given}
+use Rattle.rules.specs.pasts.Listings.{setup_limits, refused_setup, mode_as_given, n1_as_given}
 use Rattle.rules.specs.pasts.listed.Computing.{kept}
 
-pub setup-limits-kept : kept setup-limits ≡ true
+pub setup_limits_kept : kept setup_limits ≡ true
 unfolding kept ones
-setup-limits-kept = refl {a = true}
+setup_limits_kept = refl {a = true}
 
-pub refused-setup-kept : kept refused-setup ≡ true
+pub refused_setup_kept : kept refused_setup ≡ true
 unfolding kept ones
-refused-setup-kept = refl {a = true}
+refused_setup_kept = refl {a = true}
 
-pub mode-as-given-kept : kept mode-as-given ≡ true
+pub mode_as_given_kept : kept mode_as_given ≡ true
 unfolding kept ones
-mode-as-given-kept = refl {a = true}
+mode_as_given_kept = refl {a = true}
 
-pub n1-as-given-kept : kept n1-as-given ≡ true
+pub n1_as_given_kept : kept n1_as_given ≡ true
 unfolding kept ones
-n1-as-given-kept = refl {a = true}
+n1_as_given_kept = refl {a = true}

@@ -1,37 +1,37 @@
 -- Alive signals, and who dies: the answers of these listings are those that stand in them, computed. Assumes nothing.
 use Rattle.std.specs.Prelude.{◌≡◌, refl, true}
 use Rattle.std.specs.Int.Count.{ones}
-use Rattle.rules.specs.pasts.Listings.{sixteen-senders, alive-length, alive-fields, alive-fault, seconds, alive-stamp, dead-by-mode, dead-map}
+use Rattle.rules.specs.pasts.Listings.{sixteen_senders, alive_length, alive_fields, alive_fault, seconds, alive_stamp, dead_by_mode, dead_map}
 use Rattle.rules.specs.pasts.listed.Computing.{kept}
 
-pub sixteen-senders-kept : kept sixteen-senders ≡ true
+pub sixteen_senders_kept : kept sixteen_senders ≡ true
 unfolding kept ones
-sixteen-senders-kept = refl {a = true}
+sixteen_senders_kept = refl {a = true}
 
-pub alive-length-kept : kept alive-length ≡ true
+pub alive_length_kept : kept alive_length ≡ true
 unfolding kept ones
-alive-length-kept = refl {a = true}
+alive_length_kept = refl {a = true}
 
-pub alive-fields-kept : kept alive-fields ≡ true
+pub alive_fields_kept : kept alive_fields ≡ true
 unfolding kept ones
-alive-fields-kept = refl {a = true}
+alive_fields_kept = refl {a = true}
 
-pub alive-fault-kept : kept alive-fault ≡ true
+pub alive_fault_kept : kept alive_fault ≡ true
 unfolding kept ones
-alive-fault-kept = refl {a = true}
+alive_fault_kept = refl {a = true}
 
-pub seconds-kept : kept seconds ≡ true
+pub seconds_kept : kept seconds ≡ true
 unfolding kept ones
-seconds-kept = refl {a = true}
+seconds_kept = refl {a = true}
 
-pub alive-stamp-kept : kept alive-stamp ≡ true
+pub alive_stamp_kept : kept alive_stamp ≡ true
 unfolding kept ones
-alive-stamp-kept = refl {a = true}
+alive_stamp_kept = refl {a = true}
 
-pub dead-by-mode-kept : kept dead-by-mode ≡ true
+pub dead_by_mode_kept : kept dead_by_mode ≡ true
 unfolding kept ones
-dead-by-mode-kept = refl {a = true}
+dead_by_mode_kept = refl {a = true}
 
-pub dead-map-kept : kept dead-map ≡ true
+pub dead_map_kept : kept dead_map ≡ true
 unfolding kept ones
-dead-map-kept = refl {a = true}
+dead_map_kept = refl {a = true}

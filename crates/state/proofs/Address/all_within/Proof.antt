@@ -4,17 +4,17 @@ use mathlib.Core.Path.{◌≡◌, refl, sym, ◌∙◌}
 use native.Mathlib.Omega.{arith}
 use borrow.Author.Rules.{rules}
 use lib.ListN.{length, length-set}
-use Rattle.octets.specs.Split.{mapped-length}
-use Rattle.state.specs.Limits.{given, addressesWithin}
-use Rattle.state.specs.State.{sendersMost}
-use Rattle.state.specs.LimitsLaws.{addresses-more, addresses-few}
-use Rattle.state.specs.KeyLaws.{Seen, seen_none, seen_more, new-seen}
+use Rattle.octets.specs.Split.{mapped_length}
+use Rattle.state.specs.Limits.{given, addresses_within}
+use Rattle.state.specs.State.{senders_most}
+use Rattle.state.specs.LimitsLaws.{addresses_more, addresses_few}
+use Rattle.state.specs.KeyLaws.{Seen, seen_none, seen_more, new_seen}
 use Rattle.state.proofs.Address.all_within.Statement.{statement}
 use Rattle.state.proofs.Address.all_within.Tie as tie
 
 abbrev invariant-loop : tie.invariant-loop
 invariant-loop count senders within₀ seen₀ i₀ within seen i =
-    (i ≤ count) × (count ≤ sendersMost) × (length seen ≡ sendersMost) × Seen seen (given senders) i × (within ≡ addressesWithin senders i)
+    (i ≤ count) × (count ≤ senders_most) × (length seen ≡ senders_most) × Seen seen (given senders) i × (within ≡ addresses_within senders i)
 
 abbrev decreases-loop : tie.decreases-loop
 decreases-loop count senders within₀ seen₀ i₀ within seen i = count - i
@@ -22,11 +22,11 @@ decreases-loop count senders within₀ seen₀ i₀ within seen i = count - i
 returns : tie.Need-returns invariant-loop decreases-loop
 returns c =
     let a = c.before.args in
-    let all : length a.t1 ≡ sendersMost = search (rules, mapped-length) in
-    sym (addresses-few a.t1 a.count (omega (arith, c.if1.true)))
+    let all : length a.t1 ≡ senders_most = search (rules, mapped_length) in
+    sym (addresses_few a.t1 a.count (omega (arith, c.if1.true)))
 
 loop-holds : tie.Need-loop-init invariant-loop decreases-loop
-unfolding addressesWithin
+unfolding addresses_within
 loop-holds c = (search rules, search rules, search rules, seen_none _, refl)
 
 cast-a : tie.Need-overflow-cast-a invariant-loop decreases-loop
@@ -71,8 +71,8 @@ loop-again c =
       omega arith,
       simp length-set l.invariant.2,
       seen_more l.seen _ l.i _ (omega arith) key.key.ensures l.invariant.3,
-      addresses-more _ l.i _ _ _ l.invariant.4 within.within.ensures (λ yes.
-          new-seen _ _ _ _ _ (omega arith) key.key.ensures l.invariant.3 (sym within.within.ensures ∙ yes) c.fresh.ensures),
+      addresses_more _ l.i _ _ _ l.invariant.4 within.within.ensures (λ yes.
+          new_seen _ _ _ _ _ (omega arith) key.key.ensures l.invariant.3 (sym within.within.ensures ∙ yes) c.fresh.ensures),
     )
 
 returns-2 : tie.Need-returns-2 invariant-loop decreases-loop

@@ -1,5 +1,5 @@
 -- Each test is that of the definition. Assumes nothing.
-use Rattle.state.specs.Limits.{messageWithin}
+use Rattle.state.specs.Limits.{message_within}
 use borrow.Author.Rules.{rules}
 use Rattle.state.proofs.Message.within.Statement.{statement}
 use Rattle.state.proofs.Message.within.Tie as tie
@@ -32,7 +32,7 @@ held-requires : tie.Need-held-requires
 held-requires c κs = search rules
 
 returns : tie.Need-returns
-unfolding messageWithin
+unfolding message_within
 returns c =
     let partial = c.before.before.before in
     let code = partial.before.before.before.before in

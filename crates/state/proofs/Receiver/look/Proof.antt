@@ -6,19 +6,19 @@ use native.Mathlib.Omega.{arith}
 use borrow.Author.Rules.{rules}
 use borrow.Author.Tests.{not-true, not-false}
 use lib.ListN.{length, length-set}
-use Rattle.state.specs.Limits.{sendersWithin, addressAt}
-use Rattle.state.specs.LimitsLaws.{within-address, senders-more, valid-few}
-use Rattle.state.specs.KeyLaws.{Seen, seen_none, seen_more, new-seen}
+use Rattle.state.specs.Limits.{senders_within, address_at}
+use Rattle.state.specs.LimitsLaws.{within_address, senders_more, valid_few}
+use Rattle.state.specs.KeyLaws.{Seen, seen_none, seen_more, new_seen}
 use Rattle.state.specs.Table.{find}
-use Rattle.state.specs.TableLaws.{find-more, look-outside, passed-outside, passed-within}
-use Rattle.state.specs.State.{sendersMost, firstWhere}
+use Rattle.state.specs.TableLaws.{find_more, look_outside, passed_outside, passed_within}
+use Rattle.state.specs.State.{senders_most, first_where}
 use Rattle.state.proofs.Receiver.look.Statement.{statement}
 use Rattle.state.proofs.Receiver.look.Tie as tie
 
 abbrev invariant-loop : tie.invariant-loop
 invariant-loop a self count clock valid₀ at₀ seen₀ i₀ valid at seen i =
-    (i ≤ count) × (count ≤ sendersMost) × (length seen ≡ sendersMost) × Seen seen (addressAt self.senders) i
-    × (valid ≡ valid₀ && sendersWithin clock self.senders i) × (at ≡ find self.senders a i)
+    (i ≤ count) × (count ≤ senders_most) × (length seen ≡ senders_most) × Seen seen (address_at self.senders) i
+    × (valid ≡ valid₀ && senders_within clock self.senders i) × (at ≡ find self.senders a i)
 
 abbrev decreases-loop : tie.decreases-loop
 decreases-loop a self count clock valid₀ at₀ seen₀ i₀ valid at seen i = count - i
@@ -29,13 +29,13 @@ cast-if1 c = search rules
 returns : tie.Need-returns invariant-loop decreases-loop
 returns c =
     let a = c.before.args in
-    look-outside a.t1 a.a (valid-few a.t1 c.if1.true)
+    look_outside a.t1 a.a (valid_few a.t1 c.if1.true)
 
 settings-within-requires : tie.Need-settings-within-requires invariant-loop decreases-loop
 settings-within-requires c κs = search rules
 
 loop-holds : tie.Need-loop-init invariant-loop decreases-loop
-unfolding sendersWithin firstWhere
+unfolding senders_within first_where
 loop-holds c =
     (search rules, search rules, search rules, seen_none _, sym (and-true _), refl)
 
@@ -86,14 +86,14 @@ loop-again c =
     let l = key.before.before.before.before.loop in
     let first = key.before.before.before.before.before in
     let w = first.before.before.args.t1 in
-    let address = addressAt w.senders in (
+    let address = address_at w.senders in (
       omega arith,
       omega arith,
       simp length-set l.invariant.2,
       seen_more l.seen address l.i _ (omega arith) key.key.ensures l.invariant.3,
-      senders-more w.clock w.senders l.i _ first.settings-within.result _ _ l.invariant.4 within.within.ensures (λ yes.
-          new-seen _ address _ _ _ (omega arith) key.key.ensures l.invariant.3 (within-address w.clock _ (sym within.within.ensures ∙ yes)) new.fresh.ensures),
-      find-more w.senders _ l.i _ _ _ l.invariant.5 c.before.same.ensures c.next_place.ensures,
+      senders_more w.clock w.senders l.i _ first.settings-within.result _ _ l.invariant.4 within.within.ensures (λ yes.
+          new_seen _ address _ _ _ (omega arith) key.key.ensures l.invariant.3 (within_address w.clock _ (sym within.within.ensures ∙ yes)) new.fresh.ensures),
+      find_more w.senders _ l.i _ _ _ l.invariant.5 c.before.same.ensures c.next_place.ensures,
     )
 
 returns-2 : tie.Need-returns-2 invariant-loop decreases-loop
@@ -101,14 +101,14 @@ returns-2 c =
     let l = c.before.before.loop in
     let first = c.before.before.before in
     let a = first.before.before.args in
-    passed-outside a.t1 a.a _ _ l.i l.at (omega arith) first.settings-within.ensures l.invariant.4 (not-true _ c.if2.true)
+    passed_outside a.t1 a.a _ _ l.i l.at (omega arith) first.settings-within.ensures l.invariant.4 (not-true _ c.if2.true)
 
 returns-3 : tie.Need-returns-3 invariant-loop decreases-loop
 returns-3 c =
     let l = c.before.before.loop in
     let first = c.before.before.before in
     let a = first.before.before.args in
-    passed-within a.t1 a.a _ _ l.i l.at (omega arith) first.settings-within.ensures l.invariant.4 (not-false _ c.if2.false) l.invariant.5
+    passed_within a.t1 a.a _ _ l.i l.at (omega arith) first.settings-within.ensures l.invariant.4 (not-false _ c.if2.false) l.invariant.5
 
 pub look_spec : {M : Type 1} → statement M
 look_spec =

@@ -1,6 +1,6 @@
 -- The test is that of the definition. Assumes nothing.
 use borrow.Author.Rules.{rules}
-use Rattle.state.specs.Limits.{settingsOf}
+use Rattle.state.specs.Limits.{settings_of}
 use Rattle.state.proofs.Receiver.settings_within.Statement.{statement}
 use Rattle.state.proofs.Receiver.settings_within.Tie as tie
 
@@ -11,7 +11,7 @@ within-requires : tie.Need-within-requires
 within-requires c κs = search rules
 
 returns : tie.Need-returns
-unfolding settingsOf
+unfolding settings_of
 returns c = rw c.before.before.before.before.before.within.ensures
 
 pub settings-within-spec : {M : Type 1} → statement M

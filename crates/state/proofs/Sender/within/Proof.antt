@@ -1,5 +1,5 @@
 -- Each test is that of the definition. Assumes nothing.
-use Rattle.state.specs.Limits.{senderWithin}
+use Rattle.state.specs.Limits.{sender_within}
 use borrow.Author.Rules.{rules}
 use Rattle.state.proofs.Sender.within.Statement.{statement}
 use Rattle.state.proofs.Sender.within.Tie as tie
@@ -14,7 +14,7 @@ message-within-requires : tie.Need-message-within-requires
 message-within-requires c κs = search rules
 
 returns : tie.Need-returns
-unfolding senderWithin
+unfolding sender_within
 returns c = simp (c.before.before.before.before.within.ensures, c.before.before.before.within2.ensures, c.before.before.message-within.ensures)
 
 pub within-spec : {M : Type 1} → statement M

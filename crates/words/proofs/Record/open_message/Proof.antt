@@ -9,7 +9,7 @@ message-of-requires : tie.Need-message-of-requires
 message-of-requires c κs = search rules
 
 returns : tie.Need-returns
-returns c = c.message-of.ensures ∙ rw (eq-eqb _ _ c.before.if1.true)
+returns c = c.message_of.ensures ∙ rw (eq-eqb _ _ c.before.if1.true)
 
 returns-2 : tie.Need-returns-2
 returns-2 c = rw (ne_eqb _ _ c.if1.false)

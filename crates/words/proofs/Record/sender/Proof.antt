@@ -24,7 +24,7 @@ alive-heard-requires c κs = search rules
 
 returns : tie.Need-returns
 unfolding shown
-returns c = rw (c.before.before.before.open-message.ensures, c.before.before.alive-heard.ensures)
+returns c = rw (c.before.before.before.open_message.ensures, c.before.before.alive-heard.ensures)
 
 pub sender-spec : {M : Type 1} → statement M
 sender-spec =

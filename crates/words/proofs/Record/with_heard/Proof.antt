@@ -1,5 +1,5 @@
 -- A flag is 1 or 0. Assumes nothing.
-use Rattle.words.specs.WordsLaws.{flag-byte}
+use Rattle.words.specs.WordsLaws.{flag_byte}
 use borrow.Author.Rules.{rules}
 use Rattle.words.proofs.Record.with_heard.Statement.{statement}
 use Rattle.words.proofs.Record.with_heard.Tie as tie
@@ -11,7 +11,7 @@ cast-self-2 : tie.Need-overflow-cast-self-2
 cast-self-2 c = search rules
 
 returns : tie.Need-returns
-returns c = rw (flag-byte c.before.args.alive)
+returns c = rw (flag_byte c.before.args.alive)
 
 pub with-heard-spec : {M : Type 1} → statement M
 with-heard-spec = tie.close (tie.spec cast-self cast-self-2 returns)
