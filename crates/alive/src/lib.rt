@@ -2,6 +2,8 @@
 // record out, and puts it back.
 //
 // It is total: it takes any state and any octets, and refuses with their number those outside the limits.
+#![tactic(auto)]
+
 ghost use Rattle.std.specs.Prelude.{◌≡◌, not, [], ◌∷◌};
 ghost use Rattle.rules.specs.calls.Alive.{alive_head_within, alive_within, fault_within, signal_rows, heard_by, alive_answer};
 ghost use Rattle.rules.specs.calls.First.{row, first};

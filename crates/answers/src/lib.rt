@@ -1,5 +1,7 @@
 // What the calls take and answer, and beside each enum its number and values in this paper, as specs/Told.antt lists
 // them for each case.
+#![tactic(auto)]
+
 ghost use Rattle.std.specs.Prelude.{◌≡◌};
 ghost use Rattle.answers.specs.Told.{outcome_told, refused_number, call_number, question_told};
 

@@ -4,6 +4,8 @@
 //
 // What is answered is one number made of all answers, so that none can be left out and two programs are quickly
 // compared.
+#![tactic(auto)]
+
 ghost use Rattle.std.specs.Prelude.{◌≡◌};
 ghost use Rattle.header.specs.Head.{headed};
 ghost use Rattle.state.specs.State.{senders_most};

@@ -6,6 +6,8 @@
 
 // What the message call answers. The delivered octets are `length` octets from `start` on, of the packet where `slice`
 // is 1, of the storage where it is 2, and of neither where it is 0.
+#![tactic(auto)]
+
 #[repr(C)]
 #[derive(Drop)]
 pub struct Told {

@@ -1,4 +1,6 @@
 // The alive call on a state in lent words: one sender's words are loaded, changed and put back.
+#![tactic(auto)]
+
 ghost use Rattle.std.specs.Prelude.{◌≡◌};
 ghost use Rattle.rules.specs.calls.Alive.{alive_answer};
 ghost use Rattle.words.specs.Words.{state_in, left_by};

@@ -1,4 +1,6 @@
 // The clock call on a state in lent words: each sender's words are loaded, aged and put back.
+#![tactic(auto)]
+
 ghost use Rattle.std.specs.Prelude.{◌≡◌, cond, ◌+◌, ◌<◌};
 ghost use Rattle.map.specs.Map.{marked as marked_of};
 ghost use Rattle.rules.specs.calls.Clock.{clock_answer, drops as drops_at, dies as dies_at};

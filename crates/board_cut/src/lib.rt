@@ -1,4 +1,6 @@
 // The cutter, its answer in numbers.
+#![tactic(auto)]
+
 ghost use Rattle.std.specs.Prelude.{◌≡◌, length};
 ghost use Rattle.cut.specs.Cutter.{cutter_answer, cutter_buffer};
 ghost use Rattle.board.specs.Calls.{cutting_of};

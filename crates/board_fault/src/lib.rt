@@ -1,4 +1,6 @@
 // The fault section of an alive signal, read and written for C. It stands behind octet 128 of the PDU; no call needs a state.
+#![tactic(auto)]
+
 ghost use Rattle.std.specs.Prelude.{◌≡◌, length};
 ghost use Rattle.fault.specs.Reading.{reading_of, dead_at, error_at};
 ghost use Rattle.fault.specs.Writing.{writing_of, buffer_of};

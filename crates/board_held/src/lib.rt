@@ -1,4 +1,6 @@
 // How many pieces of a sender are held, of a state in lent words: for the maintenance page.
+#![tactic(auto)]
+
 ghost use Rattle.std.specs.Prelude.{◌≡◌};
 ghost use Rattle.board.specs.Calls.{held_for};
 

@@ -1,4 +1,6 @@
 // The message call on a state in lent words: one sender's words are loaded, handed to `sender`, and put back.
+#![tactic(auto)]
+
 ghost use Rattle.std.specs.Prelude.{◌≡◌, length};
 ghost use Rattle.answers.specs.declared.Where.TheVariants.{Packet};
 ghost use Rattle.answers.specs.Told.{where_told};

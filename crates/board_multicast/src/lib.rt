@@ -1,4 +1,6 @@
 // The multicast call on a state in lent words, which it only reads, and on the two lent tables.
+#![tactic(auto)]
+
 ghost use Rattle.std.specs.Prelude.{◌≡◌};
 ghost use Rattle.board.specs.Calls.{multicast_for, tables_for};
 ghost use Rattle.board_multicast.specs.private.Heard.{listener_in};

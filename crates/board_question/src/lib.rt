@@ -1,4 +1,6 @@
 // The question, of a state in lent words.
+#![tactic(auto)]
+
 ghost use Rattle.std.specs.Prelude.{◌≡◌};
 ghost use Rattle.board.specs.Calls.{none_missing, question_for};
 

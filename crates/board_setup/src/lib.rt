@@ -1,4 +1,6 @@
 // Setup, into lent words.
+#![tactic(auto)]
+
 ghost use Rattle.std.specs.Prelude.{◌≡◌, ◌++◌, length, drop};
 ghost use Rattle.words.specs.Words.{words_most, before, settings_words, words_of};
 ghost use Rattle.board.specs.Calls.{setup_for, setup_words};

@@ -1,4 +1,6 @@
 // The message call, its answer counted in two words of the caller's: answers of 0 and 1, and refusals.
+#![tactic(auto)]
+
 ghost use Rattle.std.specs.Prelude.{◌≡◌, ◌+◌, length};
 ghost use Rattle.rules.specs.calls.Message.{message_answer};
 ghost use Rattle.tally.specs.Tally.{stopping};

@@ -2,6 +2,8 @@
 // output.
 //
 // Memory does not grow with the input: one field is held, and 16,384 octets for each of at most four senders.
+#![tactic(auto)]
+
 ghost use Rattle.std.specs.Prelude.{◌≡◌, ◌≤◌, length};
 
 use capture_fields::HEAD;

@@ -1,6 +1,8 @@
 // Cutting the next tagged field out of the octets at hand, and what its contents say.
 //
 // Every public function is total: it takes any octets.
+#![tactic(auto)]
+
 ghost use Rattle.std.specs.Prelude.{◌≡◌, ◌≤◌};
 ghost use Rattle.capture_fields.specs.Field.{kind_of, is_bad, next_of, contents_of, setup_of, address_in, senders_of, clock_of};
 

@@ -1,4 +1,6 @@
 // The lines that a run prints, as octets.
+#![tactic(auto)]
+
 ghost use Rattle.std.specs.Prelude.{◌≡◌, [], ◌∷◌, ◌++◌, ◌≤◌};
 ghost use Rattle.io.specs.Counts.{IsPrefixLen};
 ghost use Rattle.capture_lines.specs.Line.{word_of, line_of, text_of, added};

@@ -2,6 +2,8 @@
 //
 // Every public function is total: octets, states and storage may be any. What a program adds is reading and writing
 // alone.
+#![tactic(auto)]
+
 ghost use Rattle.std.specs.Prelude.{◌≡◌, cond, eqb, length, ◌≤◌};
 ghost use Rattle.answers.specs.Told.{outcome_told};
 ghost use Rattle.rules.specs.calls.Alive.{alive_answer};

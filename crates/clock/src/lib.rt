@@ -1,4 +1,6 @@
 // The clock call: the only one that moves time. It drops old messages and calls silent senders dead.
+#![tactic(auto)]
+
 ghost use Rattle.std.specs.Prelude.{◌≡◌, cond, ◌+◌, ◌-◌, ◌*◌, ◌^◌, ◌<◌};
 ghost use Rattle.rules.specs.calls.Clock.{drops as drops_at, dies as dies_at, aged as aged_at, clock_answer};
 ghost use Rattle.state.specs.State.{senders_most, no_message, no_heard};

@@ -2,6 +2,8 @@
 //
 // Every public function is total. Lengths are in octets, and pieces are counted from 1.
 
+#![tactic(auto)]
+
 pub mod cutter;
 pub mod pieces;
 pub mod possible;

@@ -1,6 +1,8 @@
 // Both sides of each edge: reads the calls of docs/EDGES.md as fields from standard input, makes each on the proved
 // functions, and prints its lines. The octets of every PDU come from outside, so that nothing here is written by what
 // it tests.
+#![tactic(auto)]
+
 mod calls;
 
 ghost use Rattle.std.specs.Prelude.{◌≡◌, ◌≤◌, length};

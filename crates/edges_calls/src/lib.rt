@@ -4,6 +4,8 @@
 //
 // No contract can say what is written, so these functions have none: they answer nothing, and nothing is lent to them
 // to write.
+#![tactic(auto)]
+
 use answers::{Answer, Where};
 use capture_fields::{Kind, Next, next_field};
 use cut::cutter::cutter;

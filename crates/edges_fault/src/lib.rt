@@ -3,6 +3,8 @@
 //
 // No contract can say what is printed, so these functions have none: they answer nothing, and nothing is lent to them
 // to write.
+#![tactic(auto)]
+
 use edges_lines::calls::written_line;
 use edges_lines::{line, line_with_eight, sum};
 use fault::NAME;

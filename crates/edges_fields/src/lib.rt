@@ -1,6 +1,8 @@
 // What stands in the fields of docs/EDGES.md: an address, groups, and the values that damage puts into a state.
 //
 // Every public function is total: contents may be any octets, a number past their end is 0, and the values may be any.
+#![tactic(auto)]
+
 ghost use Rattle.std.specs.Prelude.{◌≡◌, ◌%◌, drop};
 ghost use Rattle.octets.specs.Number.{number};
 ghost use Rattle.state.specs.State.{senders_most};

@@ -2,6 +2,8 @@
 //
 // No contract can say what is written, so a function that only prints has none: it answers nothing, and nothing is lent
 // to it to write.
+#![tactic(auto)]
+
 ghost use Rattle.std.specs.Prelude.{◌%◌, ◌<◌, ◌≡◌};
 ghost use Rattle.edges_lines.specs.Sum.{with_octet, sum_from, sum_of, in_octets};
 

@@ -2,6 +2,8 @@
 // multicast call, e damages an entry, E shows them. None of them changes the state.
 //
 // No contract can say what is printed; what a field leaves of the tables is said in `Fields`.
+#![tactic(auto)]
+
 ghost use Rattle.std.specs.Prelude.{◌≡◌, length};
 ghost use Rattle.multicast.specs.Lent.{tables};
 ghost use Rattle.edges_multicast.specs.Fields.{lent_cast, cast_in, damaged_by, tables_by};

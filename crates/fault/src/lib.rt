@@ -2,6 +2,8 @@
 //
 // specs/Section.antt says what a section is; `reading` takes exactly the octets of such sections, and `writing` makes them.
 // Every public function is total. An octet past the end of what is lent reads as 0.
+#![tactic(auto)]
+
 pub mod bits;
 pub mod places;
 pub mod reading;

@@ -1,6 +1,8 @@
 // The groups in which a node is registered: 0 to 8 of them, their limits, and at which place one stands.
 //
 // Every public function is total: it takes any count and any numbers. Places past the count are never looked at.
+#![tactic(auto)]
+
 ghost use Rattle.std.specs.Prelude.{◌≡◌, get_or};
 ghost use Rattle.groups.specs.Groups.{no_group, is_group, number_at, place_among, groups_within, place_of, kept_at, kept as kept_of};
 

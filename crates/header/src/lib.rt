@@ -2,6 +2,8 @@
 //
 // Every function is total. An octet past the end of a packet reads as 0, and a buffer that is shorter than a header
 // stays as it is. Which values are admitted is said in `codes`; reading and writing take any.
+#![tactic(auto)]
+
 ghost use Rattle.std.specs.Prelude.{◌≡◌, eqb};
 ghost use Rattle.header.specs.Head.{value_at, given_of, cut_of, head_of, headed, is_fixed, length_outside, common_within};
 ghost use Rattle.header.specs.Places.Field.{inq_id};

@@ -1,4 +1,6 @@
 // The map of pieces held, a word of 64 bits: piece c at bit c - 1, bit 0 lowest.
+#![tactic(auto)]
+
 ghost use Rattle.std.specs.Prelude.{◌≡◌, not, ◌||◌, ◌+◌, ◌-◌, ◌^◌, ◌≤◌, ◌<◌, eqb};
 ghost use Rattle.std.specs.Int.Count.{ones};
 ghost use Rattle.map.specs.Map.{most_pieces, bit, holds as holds_of, full_map, is_empty, is_full, marked_past, marked as marked_of, lowest_missing};

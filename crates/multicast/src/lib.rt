@@ -3,6 +3,8 @@
 //
 // Every public function is total: it takes any state, any tables, any group and any octets. The state does not change. Places
 // in the tables are said in `rules`, as is what becomes of a packet.
+#![tactic(auto)]
+
 ghost use Rattle.std.specs.Prelude.{◌≡◌, [], ◌∷◌, leb, get_or, set as set_at};
 ghost use Rattle.answers.specs.declared.Outcome.TheVariants.{Refused};
 ghost use Rattle.groups.specs.Groups.{place_of};

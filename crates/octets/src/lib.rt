@@ -3,6 +3,8 @@
 //
 // Every function is total. An octet past the end of a slice reads as 0. What would reach past the end is not laid
 // down at all, and the slice stays as it is. Nothing here knows of ADP.
+#![tactic(auto)]
+
 ghost use Rattle.std.specs.Prelude.{◌≡◌, ◌+◌, ◌≤◌, ◌<◌, leb, length, drop};
 ghost use Rattle.octets.specs.Number.{number, octets};
 ghost use Rattle.octets.specs.Run.{run as run_of, laid};

@@ -4,6 +4,8 @@
 //
 // The first equations of each contract are those of the call itself. A call that is lent no storage leaves any storage
 // as it is.
+#![tactic(auto)]
+
 ghost use Rattle.std.specs.Prelude.{◌≡◌, List, ℕ, ◌*◌, length};
 ghost use Rattle.cut.specs.Cutter.{cutter_answer, cutter_buffer};
 ghost use Rattle.fault.specs.Reading.{reading_of, dead_at, error_at, options_of};

@@ -1,4 +1,6 @@
 // The question: of the first sender in table order with an open message, which piece is its lowest missing one?
+#![tactic(auto)]
+
 ghost use Rattle.std.specs.Prelude.{◌≡◌};
 ghost use Rattle.rules.specs.calls.Question.{pieces_of, question_answer};
 

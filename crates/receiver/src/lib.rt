@@ -3,5 +3,7 @@
 //
 // Every public function is total: it takes any state, any storage and any octets.
 
+#![tactic(auto)]
+
 pub mod message;
 pub mod part;

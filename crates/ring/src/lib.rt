@@ -2,6 +2,8 @@
 // number check with its verdict. Nothing above this crate compares sequence numbers in any other way.
 //
 // Every function is total: a number outside 1 to M is taken modulo M.
+#![tactic(auto)]
+
 ghost use Rattle.std.specs.Prelude.{◌≡◌, cond, ◌-◌, ◌%◌, ◌<◌, eqb, ltb};
 ghost use Rattle.ring.specs.declared.Verdict.TheVariants.{Repeat, Next, Gap};
 ghost use Rattle.ring.specs.Ring.{M as last, back as back_of, newer as is_newer, is_number};

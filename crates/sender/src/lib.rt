@@ -2,6 +2,8 @@
 // dropping and delivering.
 //
 // Every public function is total: the record need not be within its limits.
+#![tactic(auto)]
+
 ghost use Rattle.std.specs.Prelude.{◌≡◌, true, not, ◌&&◌, [], ◌∷◌};
 ghost use Rattle.ring.specs.Ring.{newer as is_newer};
 ghost use Rattle.cut.specs.Possible.{possible as is_possible};

@@ -1,4 +1,6 @@
 // Setup: the state that a node starts with.
+#![tactic(auto)]
+
 ghost use Rattle.std.specs.Prelude.{◌≡◌, true, cond, ◌≤◌};
 ghost use Rattle.rules.specs.calls.Setup.{setup_within, setup_state, setup_answer};
 ghost use Rattle.setup.specs.private.Settled.{settled as settled_by};

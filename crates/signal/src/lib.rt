@@ -2,6 +2,8 @@
 // value.
 //
 // Every function is total. An octet past the end of a packet reads as 0.
+#![tactic(auto)]
+
 ghost use Rattle.std.specs.Prelude.{◌≡◌};
 ghost use Rattle.signal.specs.Alive.{body_of, is_body, group_of};
 

@@ -2,6 +2,8 @@
 // does to it is said in `rules`, as definitions; the functions that do it stand in the crates above.
 //
 // What is not open, not alive or past the senders is written 0 and never looked at.
+#![tactic(auto)]
+
 ghost use Rattle.std.specs.Prelude.{◌≡◌, cond, not, ◌||◌, ◌+◌, ◌<◌, ltb};
 ghost use Rattle.state.specs.Limits.{is_address, same_address, last_within, message_within, sender_within, settings_within, addresses_within, valid};
 ghost use Rattle.state.specs.Key.{key_of, Narrow, new_key};

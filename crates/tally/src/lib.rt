@@ -4,6 +4,8 @@
 // The record is lent by `&mut`, so `message` is proved by a walk by hand. All the work is in functions that need none:
 // the call is the receiver's, and the counting is `counted`, by value. Any record, any state, any storage and any
 // octets may come.
+#![tactic(auto)]
+
 ghost use Rattle.std.specs.Prelude.{◌≡◌, ◌+◌, length};
 ghost use Rattle.rules.specs.calls.Message.{message_answer, message_storage};
 ghost use Rattle.tally.specs.Tally.{stopping, counted as counted_of};

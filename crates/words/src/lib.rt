@@ -4,6 +4,8 @@
 //
 // Every function is total: it takes any words, as many as there are. Which words are a state, and which state they are,
 // is said in specs/Words.antt.
+#![tactic(auto)]
+
 ghost use Rattle.std.specs.Prelude.{◌≡◌, cond, ◌%◌, ◌≤◌, ◌<◌, set as set_at};
 ghost use Rattle.groups.specs.Groups.{number_at};
 ghost use Rattle.octets.specs.Run.{laid};

@@ -3,6 +3,8 @@
 // Every public function is total: it takes any words, as many as there are. Which words are a state, and which state they
 // are, is said by crate `words`; the limits are the state's own. 9 is judged for every packet, so the words are looked at
 // where they stand, and no further than to the first that is outside its limits.
+#![tactic(auto)]
+
 ghost use Rattle.std.specs.Prelude.{◌≡◌, true, ◌&&◌};
 ghost use Rattle.groups.specs.Groups.{groups_within};
 ghost use Rattle.state.specs.Limits.{is_address, last_within, message_within};
