@@ -1,0 +1,8 @@
+-- A number is its two halves, read from the part that starts at its place. Assumes nothing.
+use Rattle.octets.specs.NumberLaws.{number_halves}
+use Rattle.octets.proofs.read2.Goals as goal
+
+pub returns : goal.returns
+returns c =
+    let a = c.args in
+    number_halves 1 a.s.now a.at _ _ _ c.from-t.ensures c.read1.ensures c.read1-2.ensures
