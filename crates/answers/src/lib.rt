@@ -10,7 +10,7 @@ use ring::{Number, Verdict, Version};
 use state::{Address, Receiver, Sender};
 
 // What became of a packet.
-#[derive(Drop)]
+#[derive(Clone, Copy)]
 pub enum Outcome {
     // with 01's number, 9 or more; with 17 how far back the number lies, otherwise 0
     Refused { number: u8, age: u32 },
@@ -75,7 +75,7 @@ impl Outcome {
 }
 
 // Where a delivered message lies.
-#[derive(Drop)]
+#[derive(Clone, Copy)]
 pub enum Where {
     Nothing,
     // behind the header of the packet
@@ -85,7 +85,7 @@ pub enum Where {
 }
 
 // The message that was dropped to make room; both 0 if none was.
-#[derive(Drop)]
+#[derive(Clone, Copy)]
 pub struct Dropped {
     pub version: Version,
     pub number: Number,
@@ -99,7 +99,7 @@ impl Dropped {
 }
 
 // What one sender's record makes of a PDU.
-#[derive(Drop)]
+#[derive(Clone, Copy)]
 pub struct Admission {
     pub outcome: Outcome,
     pub held: u8,
@@ -108,7 +108,7 @@ pub struct Admission {
 }
 
 // What the message call answers.
-#[derive(Drop)]
+#[derive(Clone, Copy)]
 pub struct Answer {
     pub outcome: Outcome,
     // pieces then held for the PDU's sender
@@ -119,7 +119,7 @@ pub struct Answer {
 }
 
 // What the multicast call answers: it leaves the state as it is.
-#[derive(Drop)]
+#[derive(Clone, Copy)]
 pub struct GroupAnswer {
     pub outcome: Outcome,
     pub lies: Where,
@@ -127,7 +127,7 @@ pub struct GroupAnswer {
 
 // What of a state the multicast call looks at: whether it is within its limits, its settings, and at which place the
 // packet's sender stands.
-#[derive(Drop)]
+#[derive(Clone, Copy)]
 pub struct Listener {
     pub valid: bool,
     pub test: bool,
@@ -139,7 +139,7 @@ pub struct Listener {
 
 // What setup takes. Places of the tables past their counts are not looked at.
 #[repr(C)]
-#[derive(Drop)]
+#[derive(Clone, Copy)]
 pub struct Setup {
     pub mode: u8,
     pub n1: u16,
@@ -150,7 +150,7 @@ pub struct Setup {
 }
 
 // What became of a call that takes no message.
-#[derive(Drop)]
+#[derive(Clone, Copy)]
 pub enum Call {
     Done,
     // with 01's number, 9 or more
@@ -169,21 +169,21 @@ impl Call {
 }
 
 // What setup answers.
-#[derive(Drop)]
+#[derive(Clone, Copy)]
 pub struct Started {
     pub call: Call,
     pub state: Receiver,
 }
 
 // What the alive call answers.
-#[derive(Drop)]
+#[derive(Clone, Copy)]
 pub struct Noted {
     pub call: Call,
     pub state: Receiver,
 }
 
 // What the question answers.
-#[derive(Drop)]
+#[derive(Clone, Copy)]
 pub enum Missing {
     // with 01's number, 9 or more
     Refused(u8),
@@ -242,7 +242,7 @@ impl Missing {
 }
 
 // What the clock call answers: which messages were dropped and which senders died, first sender lowest.
-#[derive(Drop)]
+#[derive(Clone, Copy)]
 pub struct Ticked {
     pub call: Call,
     pub dropped: u16,

@@ -166,7 +166,7 @@ fn given_of(number: u32) -> Given
 // ---- packet after packet
 
 // What a night leaves beside the storage.
-#[derive(Drop)]
+#[derive(Clone, Copy)]
 struct Ended {
     sum: u64,
     state: Receiver,

@@ -9,7 +9,7 @@
 #![tactic(auto)]
 
 #[repr(C)]
-#[derive(Drop)]
+#[derive(Clone, Copy)]
 pub struct Told {
     pub number: u8,
     pub verdict: u8,
@@ -25,7 +25,7 @@ pub struct Told {
 
 // What the clock call answers: which messages were dropped and which senders died, first sender lowest.
 #[repr(C)]
-#[derive(Drop)]
+#[derive(Clone, Copy)]
 pub struct Ticked {
     pub number: u8,
     pub dropped: u16,
@@ -34,7 +34,7 @@ pub struct Ticked {
 
 // What the question answers: whether a message is open, and of the first sender that has one its lowest missing piece.
 #[repr(C)]
-#[derive(Drop)]
+#[derive(Clone, Copy)]
 pub struct Missing {
     pub number: u8,
     pub open: bool,
@@ -44,7 +44,7 @@ pub struct Missing {
 
 // What the cutter answers: the PDU's length is 0 on a refusal.
 #[repr(C)]
-#[derive(Drop)]
+#[derive(Clone, Copy)]
 pub struct Cutting {
     pub number: u8,
     pub length: u16,
@@ -52,7 +52,7 @@ pub struct Cutting {
 
 // Where a section's options stand in it: `length` octets from `start` on, both 0 where there are none.
 #[repr(C)]
-#[derive(Drop)]
+#[derive(Clone, Copy)]
 pub struct Options {
     pub start: usize,
     pub length: usize,
@@ -60,7 +60,7 @@ pub struct Options {
 
 // What writing a section answers: its length is 0 on a refusal.
 #[repr(C)]
-#[derive(Drop)]
+#[derive(Clone, Copy)]
 pub struct Written {
     pub number: u8,
     pub length: u16,

@@ -16,7 +16,7 @@ use state::{Address, Receiver};
 pub const HEAD: usize = 3;
 
 // What a field is for.
-#[derive(Drop)]
+#[derive(Clone, Copy)]
 pub enum Kind {
     Setup,
     Message,
@@ -25,7 +25,7 @@ pub enum Kind {
     Bad,
 }
 
-#[derive(Drop)]
+#[derive(Clone, Copy)]
 pub enum Next {
     // no octet is left
     Nothing,

@@ -8,7 +8,7 @@ ghost use Rattle.capture_lines.specs.Line.{word_of, line_of, text_of, added};
 use octets::lay;
 
 // What is said of a field. 01's numbers stand in it as they are printed.
-#[derive(Drop)]
+#[derive(Clone, Copy)]
 pub enum Line {
     Nothing,
     Setup {
@@ -33,7 +33,7 @@ pub enum Line {
 }
 
 // A line's octets: the first of an array that has room for every line. Behind them are zeros.
-#[derive(Drop)]
+#[derive(Clone, Copy)]
 pub struct Text {
     pub octets: [u8; 96],
     pub length: usize,

@@ -25,7 +25,7 @@ use receiver::part::part;
 use setup::setup;
 use state::Receiver;
 
-#[derive(Drop)]
+#[derive(Clone, Copy)]
 pub struct Turn {
     pub state: Receiver,
     pub line: Line,

@@ -12,7 +12,7 @@ use header::codes::{code_of, is_mode, is_pri};
 use header::{Cut, Given, Head, SIZE, write_head};
 use octets::lay_once;
 
-#[derive(Drop)]
+#[derive(Clone, Copy)]
 pub enum Cutting {
     // the PDU's length
     Written(u16),

@@ -17,7 +17,7 @@ pub const NAME: usize = 8;
 
 // A module, from 1, and what is wrong with it.
 #[repr(C)]
-#[derive(Drop)]
+#[derive(Clone, Copy)]
 pub struct Error {
     pub module: u16,
     pub error: u16,

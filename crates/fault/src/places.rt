@@ -6,7 +6,7 @@ use crate::bits::bits_size;
 use octets::read4;
 
 // Places are counted in 64 bits, so that no sum wraps whatever the counts are.
-#[derive(Drop)]
+#[derive(Clone, Copy)]
 pub struct Places {
     pub modules: u32,
     pub errors: u32,

@@ -17,7 +17,7 @@ use octets::{lay, read1, read2, read4, run};
 // How many modules, errors and octets of options a section has, and its errors' name; with 24 all of them 0. (An enum cannot
 // hold the name, see docs/DECISIONS.md.)
 #[repr(C)]
-#[derive(Drop)]
+#[derive(Clone, Copy)]
 pub struct Report {
     pub number: u8,
     pub modules: u32,

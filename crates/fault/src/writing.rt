@@ -9,7 +9,7 @@ use crate::bits::{bits_size, none_above};
 use crate::{MOST, NAME};
 use octets::{lay, write4};
 
-#[derive(Drop)]
+#[derive(Clone, Copy)]
 pub enum Writing {
     // the section's length
     Written(u16),

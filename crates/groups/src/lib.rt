@@ -8,11 +8,11 @@ ghost use Rattle.groups.specs.Groups.{no_group, is_group, number_at, place_among
 
 // 1 to 255
 #[repr(C)]
-#[derive(Drop)]
+#[derive(Clone, Copy)]
 pub struct Group(pub u8);
 
 #[repr(C)]
-#[derive(Drop)]
+#[derive(Clone, Copy)]
 pub struct Groups {
     pub count: u8,
     pub list: [Group; Groups::PLACES],

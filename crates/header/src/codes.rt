@@ -3,7 +3,7 @@ ghost use Rattle.std.specs.Prelude.{◌≡◌};
 ghost use Rattle.header.specs.Codes.{code_of, is_user_code, is_alive_code, is_mode, is_pri, is_data_field, is_node};
 
 // Whose a transaction code is.
-#[derive(Drop)]
+#[derive(Clone, Copy)]
 pub enum Code {
     User,
     Alive,
@@ -68,12 +68,12 @@ pub fn is_pri(pri: u8) -> bool
 
 // 1 to 255
 #[repr(C)]
-#[derive(Drop)]
+#[derive(Clone, Copy)]
 pub struct DataField(pub u8);
 
 // 1 to 4,095
 #[repr(C)]
-#[derive(Drop)]
+#[derive(Clone, Copy)]
 pub struct Node(pub u16);
 
 impl DataField {

@@ -23,7 +23,7 @@ const NUXM: u32 = 0x4e55_584d;
 
 // What the caller gives for every piece of a message: all of Table 7 but the fixed fields and what the cut makes.
 #[repr(C)]
-#[derive(Drop)]
+#[derive(Clone, Copy)]
 pub struct Given {
     pub field: DataField,
     pub node: Node,
@@ -37,7 +37,7 @@ pub struct Given {
 }
 
 // What the cut makes: message length + 64, PDU length, piece number from 1, number of pieces.
-#[derive(Drop)]
+#[derive(Clone, Copy)]
 pub struct Cut {
     pub ml: u32,
     pub bsize: u16,
@@ -45,7 +45,7 @@ pub struct Cut {
     pub tbn: u8,
 }
 
-#[derive(Drop)]
+#[derive(Clone, Copy)]
 pub struct Head {
     pub given: Given,
     pub cut: Cut,

@@ -11,12 +11,12 @@ ghost use Rattle.ring.specs.Check.{check, verdict_number, verdict_skipped, verdi
 
 // V_SEQ: any 32-bit number.
 #[repr(C)]
-#[derive(Drop)]
+#[derive(Clone, Copy)]
 pub struct Version(pub u32);
 
 // SEQ: 1 to M, used cyclically.
 #[repr(C)]
-#[derive(Drop)]
+#[derive(Clone, Copy)]
 pub struct Number(pub u32);
 
 pub const M: u32 = 2_147_483_647;
@@ -25,7 +25,7 @@ pub const M: u32 = 2_147_483_647;
 const HALF: u32 = 1_073_741_823;
 
 // What the number check says of a message. A repeat is refused, so it has no verdict of its own in what is printed.
-#[derive(Drop)]
+#[derive(Clone, Copy)]
 pub enum Verdict {
     Unchecked,
     First,

@@ -17,7 +17,7 @@ pub const SIZE: usize = 128;
 // The most octets of an alive PDU.
 pub const MOST: usize = 1_472;
 
-#[derive(Drop)]
+#[derive(Clone, Copy)]
 pub struct Body {
     // al_tm_out, in seconds
     pub timeout: u32,

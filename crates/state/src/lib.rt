@@ -20,7 +20,7 @@ use map::{held, is_partial};
 use ring::{M, Number, Version};
 
 // The last delivered version RV and number R.
-#[derive(Drop)]
+#[derive(Clone, Copy)]
 pub struct Last {
     pub version: Version,
     pub number: Number,
@@ -30,7 +30,7 @@ pub struct Last {
 // the clock at its newest piece.
 //
 // The two octets stand together: apart, the record would be longer by eight.
-#[derive(Drop)]
+#[derive(Clone, Copy)]
 pub struct Message {
     pub version: Version,
     pub number: Number,
@@ -44,7 +44,7 @@ pub struct Message {
 }
 
 // When an alive sender was heard, and after how many seconds of silence it is dead.
-#[derive(Drop)]
+#[derive(Clone, Copy)]
 pub struct Heard {
     pub stamp: u64,
     pub timeout: u32,
@@ -52,7 +52,7 @@ pub struct Heard {
 
 // Where a sender sends from.
 #[repr(C)]
-#[derive(Drop)]
+#[derive(Clone, Copy)]
 pub struct Address {
     pub field: DataField,
     pub node: Node,
@@ -60,7 +60,7 @@ pub struct Address {
 
 // The two flags stand together: apart, between larger fields, each would cost one move more for every sender where a
 // state is copied.
-#[derive(Drop)]
+#[derive(Clone, Copy)]
 pub struct Sender {
     pub address: Address,
     pub open: bool,
@@ -70,7 +70,7 @@ pub struct Sender {
     pub heard: Heard,
 }
 
-#[derive(Drop)]
+#[derive(Clone, Copy)]
 pub struct Receiver {
     // a test node; otherwise online
     pub test: bool,
@@ -352,7 +352,7 @@ impl Receiver {
 }
 
 // What one pass over the table finds.
-#[derive(Drop)]
+#[derive(Clone, Copy)]
 pub struct Look {
     pub valid: bool,
     pub at: u8,

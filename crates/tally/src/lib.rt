@@ -13,7 +13,7 @@ ghost use Rattle.tally.specs.Tally.{stopping, counted as counted_of};
 use answers::{Answer, Outcome};
 use state::Receiver;
 
-#[derive(Drop)]
+#[derive(Clone, Copy)]
 pub struct Tally {
     // stored (0) and delivered (1)
     pub answers: u32,

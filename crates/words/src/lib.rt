@@ -93,7 +93,7 @@ fn octet(groups: Groups, k: u8) -> u64
 
 // ---- one sender's words
 
-#[derive(Drop)]
+#[derive(Clone, Copy)]
 pub struct Record {
     // data field and node
     pub address: u64,
