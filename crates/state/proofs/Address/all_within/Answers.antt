@@ -1,0 +1,40 @@
+-- After i turns the first i addresses have been judged. Assumes nothing.
+use Prim.Native.Nat.{◌≤◌, ◌-◌}
+use mathlib.Core.Path.{◌≡◌, refl, sym, ◌∙◌}
+use native.Mathlib.Omega.{arith}
+use borrow.Author.Rules.{rules}
+use lib.ListN.{length, length-set}
+use Rattle.octets.specs.Split.{mapped_length}
+use Rattle.state.specs.Limits.{addresses_within}
+use Rattle.state.specs.State.{senders_most}
+use Rattle.state.specs.LimitsLaws.{addresses_more, addresses_few}
+use Rattle.state.specs.KeyLaws.{seen_none, seen_more, new_seen}
+use Rattle.state.proofs.Address.all_within.Goals as goal
+
+pub returns-then-count-gt-PLACES : goal.returns-then-count-gt-PLACES
+returns-then-count-gt-PLACES c =
+    let a = c.args in
+    let all : length a.senders ≡ senders_most = search (rules, mapped_length) in
+    sym (addresses_few a.senders a.count (omega (arith, c.if-count-gt-PLACES.true)))
+
+pub loop-i-init : goal.loop-i-init
+unfolding addresses_within
+loop-i-init c = (search rules, search rules, search rules, seen_none _, refl)
+
+pub loop-i-preserved : goal.loop-i-preserved
+loop-i-preserved c =
+    let l = c.loop-i in (
+      omega arith,
+      omega arith,
+      simp length-set l.invariant.2,
+      seen_more l.seen _ l.i _ (omega arith) c.key-key.ensures l.invariant.3,
+      addresses_more _ l.i _ _ _ l.invariant.4 c.within.ensures (λ yes.
+          new_seen _ _ _ _ _ (omega arith) c.key-key.ensures l.invariant.3 (sym c.within.ensures ∙ yes) c.fresh.ensures),
+    )
+
+pub returns : goal.returns
+returns c =
+    let l = c.loop-i in
+    let a = c.args in
+    let e : l.i ≡ a.count = omega arith in
+    rw e at l.invariant.4
