@@ -51,10 +51,10 @@ module _ (w : Receiver) (room : ℕ) (packet : List ℕ) (ok : valid w ≡ true)
   pub out_of_order : in_order packet ≡ false → message_number w room packet ≢ 0
   out_of_order e none =
       let f = (taken_facts w room packet none).0 in
-      never_both (in_order f) e
+      never_both (in_order_lem f) e
     where
-      in_order : Passed (valid w) w.count (found w (head_of packet)) room packet (head_of packet) → in_order packet ≡ true
-      in_order f =
+      in_order_lem : Passed (valid w) w.count (found w (head_of packet)) room packet (head_of packet) → in_order packet ≡ true
+      in_order_lem f =
           in_order_is packet ∙ both (not (length_wrong (length packet) (head_of packet))) (head_within packet (head_of packet)) (rw f.length_right) f.head_within_lem
 
   -- One of the sender at place i meets what its record says.
@@ -186,9 +186,9 @@ module _ (w : World) (sound : Sound w) (i : ℕ) (here : i < w.state.count) wher
     abbrev s : Sender
     s = sender_at w.state i
 
-    in_order : in_order packet ≡ true
+    in_order_lem : in_order packet ≡ true
     unfolding is_from
-    in_order = and_left (in_order packet) (same_address its (source (head_of packet))) mine
+    in_order_lem = and_left (in_order packet) (same_address its (source (head_of packet))) mine
 
     at_place : found w.state (head_of packet) ≡ i
     unfolding is_from
@@ -197,7 +197,7 @@ module _ (w : World) (sound : Sound w) (i : ℕ) (here : i < w.state.count) wher
     pub number_is : message_number w.state (length w.storage) packet ≡ number_of g v packet
     unfolding view
     number_is =
-        number_at w.state (length w.storage) packet sound.is_valid sound.room i in_order at_place here
+        number_at w.state (length w.storage) packet sound.is_valid sound.room i in_order_lem at_place here
         ∙ ap first (sym (rows_joining w.state.test w.state.n1 s (head_of packet)))
 
     put_is : message_number w.state (length w.storage) packet ≡ 0 → view (step w (message packet)) i ≡ put g v packet

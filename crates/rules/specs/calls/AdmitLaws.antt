@@ -84,10 +84,10 @@ pub kept_wrong : (n1 : ℕ) (s : Sender) (h : Head) → Admitted n1 s h → rejo
 unfolding kept_after
 kept_wrong n1 s h a r short wrong right =
     let k = s.message.held in
-    let one_more : one_more k ≡ suc (ones s.message.map) = rw r at (right ∙ map_one_more n1 s h a) in
+    let more : one_more k ≡ suc (ones s.message.map) = rw r at (right ∙ map_one_more n1 s h a) in
     ⊎_elim
-    (λ (room : k < 255). wrong (omega (arith, rw (lt-ltb k 255 room) at one_more)))
-    (λ (most : 255 ≤ k). omega (arith, rw (le-ltb k 255 most) at one_more, most, ones-le 64 s.message.map short))
+    (λ (room : k < 255). wrong (omega (arith, rw (lt-ltb k 255 room) at more)))
+    (λ (most : 255 ≤ k). omega (arith, rw (le-ltb k 255 most) at more, most, ones-le 64 s.message.map short))
     (lt_or_le k 255)
 
 pub fills_full : (s : Sender) (h : Head) → fills s h ≡ eqb (map_after s h) (full_map h.cut.tbn)

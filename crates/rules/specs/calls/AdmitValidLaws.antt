@@ -85,8 +85,8 @@ module _ (n1 clock : ℕ) (s : Sender) (h : Head) (a : Admitted n1 s h) where
           stamp = omega arith;
         }
 
-    last_within : SenderWithin clock s → last_within (last_by (verdict_of n1 s h) s h) ≡ true
-    last_within f = cond_case (λ (l : Last). last_within l ≡ true) (is_unchecked (verdict_of n1 s h)) s.last _
+    last_within_lem : SenderWithin clock s → last_within (last_by (verdict_of n1 s h) s h) ≡ true
+    last_within_lem f = cond_case (λ (l : Last). last_within l ≡ true) (is_unchecked (verdict_of n1 s h)) s.last _
         (λ _. f.last)
         (λ _. number_last h.given.version.0 h.given.number.0 number)
 
@@ -95,7 +95,7 @@ module _ (n1 clock : ℕ) (s : Sender) (h : Head) (a : Admitted n1 s h) where
     after_stays = cond_case (Stays clock clock s) (fills s h) (closed s (last_by (verdict_of n1 s h) s h)) (opened s (message_after clock s h))
         (λ _. record {
           address = refl;
-          within = λ f. record { address = f.address; last = last_within f; message = λ z. absurd (false≢true z); heard = f.heard };
+          within = λ f. record { address = f.address; last = last_within_lem f; message = λ z. absurd (false≢true z); heard = f.heard };
         })
         (λ e. record {
           address = refl;
