@@ -2,7 +2,7 @@
 -- arrival always applies. Assumes nothing.
 use Rattle.std.specs.Prelude.{ℕ, zero, suc, ◌≤◌, ◌≡◌, refl, ◌≢◌, ◌⊎◌, Bool, true, false, List, [], ◌∷◌, eqb, leb, length, drop}
 use Rattle.std.proofs.Common.{sym, subst, inl, inr, ⊎_elim, arith, eqb-true, eq-eqb, leb-true, le-leb}
-use Rattle.std.proofs.Math.Logic.{Dec·and}
+use Rattle.std.proofs.Math.Logic.Dec.{and as dec_and}
 use Rattle.std.proofs.lemmas.Bool.{false≢true}
 use Rattle.octets.specs.Split.{eq_or_ne}
 use Rattle.header.specs.declared.Cut.{Cut}
@@ -43,13 +43,13 @@ unfoldable pub dec_octets : (a b : List ℕ) → Dec (a ≡ b)
 dec_octets [] [] = yes refl
 dec_octets [] (y ∷ b) = no (λ e. let z : ◌≡◌ {A = ℕ} 0 1 = cc in omega arith)
 dec_octets (x ∷ a) [] = no (λ e. let z : ◌≡◌ {A = ℕ} 0 1 = cc in omega arith)
-dec_octets (x ∷ a) (y ∷ b) = dec_by (λ f. rw (f.0, f.1)) (λ e. (cc, cc)) (Dec·and (dec_eq x y) (dec_octets a b))
+dec_octets (x ∷ a) (y ∷ b) = dec_by (λ f. rw (f.0, f.1)) (λ e. (cc, cc)) (dec_and (dec_eq x y) (dec_octets a b))
 
 unfoldable pub dec_cut : (a b : Cut) → Dec (a ≡ b)
 dec_cut a b = dec_by
     (λ f. λ i. record { ml = f.0.0 i; bsize = f.0.1 i; cbn = f.1.0 i; tbn = f.1.1 i })
     (λ e. ((rw e, rw e), (rw e, rw e)))
-    (Dec·and (Dec·and (dec_eq a.ml b.ml) (dec_eq a.bsize b.bsize)) (Dec·and (dec_eq a.cbn b.cbn) (dec_eq a.tbn b.tbn)))
+    (dec_and (dec_and (dec_eq a.ml b.ml) (dec_eq a.bsize b.bsize)) (dec_and (dec_eq a.cbn b.cbn) (dec_eq a.tbn b.tbn)))
 
 -- ---- whether a packet is a piece, and whether a piece came
 
@@ -67,10 +67,10 @@ module _ (m : Sent) where
         octets = f.1.1.1.1;
       })
       (λ f. ((f.numbered, f.from), ((f.version, f.number), ((f.code, f.mode), (f.cut, f.octets)))))
-      (Dec·and (Dec·and (Dec·and (dec_le 1 c) (dec_le c (count m))) (dec_true (is_from m.address p)))
-      (Dec·and (Dec·and (dec_eq (head_of p).given.version.0 m.version.0) (dec_eq (head_of p).given.number.0 m.number.0))
-      (Dec·and (Dec·and (dec_eq (head_of p).given.tcd m.code) (dec_eq (head_of p).given.mode m.mode))
-      (Dec·and (dec_cut (head_of p).cut (cut_for (length m.octets) m.u c)) (dec_octets (drop header_size p) (piece m.octets m.u c))))))
+      (dec_and (dec_and (dec_and (dec_le 1 c) (dec_le c (count m))) (dec_true (is_from m.address p)))
+      (dec_and (dec_and (dec_eq (head_of p).given.version.0 m.version.0) (dec_eq (head_of p).given.number.0 m.number.0))
+      (dec_and (dec_and (dec_eq (head_of p).given.tcd m.code) (dec_eq (head_of p).given.mode m.mode))
+      (dec_and (dec_cut (head_of p).cut (cut_for (length m.octets) m.u c)) (dec_octets (drop header_size p) (piece m.octets m.u c))))))
 
   unfoldable pub dec_brings : (c : ℕ) (e : Event) → Dec (Brings m c e)
   dec_brings c (message p) = dec_piece c p

@@ -203,16 +203,16 @@ pub entries_after : (q : Setup) (begun : Tables) (log : List Exchange) (w : Worl
 unfolding answers logged
 entries_after q begun log w a t inv [] u on = rw on inv
 entries_after q begun log w a t inv (message packet ∷ es) u on =
-    entries_after q begun _ (step w (message packet)) (agrees_step q log w a (message packet)) t (entries_still q begun log t _ refl inv) es u on
+    entries_after q begun (exchange (message packet) (told_by (message packet) (said w (message packet))) ∷ log) (step w (message packet)) (agrees_step q log w a (message packet)) t (entries_still q begun log t _ refl inv) es u on
 entries_after q begun log w a t inv (alive packet ∷ es) u on =
-    entries_after q begun _ (step w (alive packet)) (agrees_step q log w a (alive packet)) t (entries_still q begun log t _ refl inv) es u on
+    entries_after q begun (exchange (alive packet) (told_by (alive packet) (said w (alive packet))) ∷ log) (step w (alive packet)) (agrees_step q log w a (alive packet)) t (entries_still q begun log t _ refl inv) es u on
 entries_after q begun log w a t inv (clock ms ∷ es) u on =
-    entries_after q begun _ (step w (clock ms)) (agrees_step q log w a (clock ms)) t (entries_still q begun log t _ refl inv) es u on
+    entries_after q begun (exchange (clock ms) (told_by (clock ms) (said w (clock ms))) ∷ log) (step w (clock ms)) (agrees_step q log w a (clock ms)) t (entries_still q begun log t _ refl inv) es u on
 entries_after q begun log w a t inv (aside question ∷ es) u on =
-    entries_after q begun _ (step w (aside question)) (agrees_step q log w a (aside question)) t (entries_still q begun log t _ refl inv) es u on
+    entries_after q begun (exchange (aside question) (told_by (aside question) (said w (aside question))) ∷ log) (step w (aside question)) (agrees_step q log w a (aside question)) t (entries_still q begun log t _ refl inv) es u on
 entries_after q begun log w a t inv (aside (multicast lent g packet) ∷ es) u on =
     let given-on = subst (Entries q begun log) (sym on.0) inv in
-    entries_after q begun _ (step w (aside (multicast lent g packet))) (agrees_step q log w a (aside (multicast lent g packet))) (multicast_tables w.state lent g packet)
+    entries_after q begun (exchange (aside (multicast lent g packet)) (told_by (aside (multicast lent g packet)) (said w (aside (multicast lent g packet)))) ∷ log) (step w (aside (multicast lent g packet))) (agrees_step q log w a (aside (multicast lent g packet))) (multicast_tables w.state lent g packet)
     (entries_cast q begun log w a lent given-on g packet) es u (unfold said in on.1)
 
 -- ---- what the next packet is told

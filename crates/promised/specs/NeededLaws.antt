@@ -4,7 +4,8 @@
 use Rattle.std.specs.Prelude.{ℕ, zero, suc, ◌*◌, ◌<◌, ◌≡◌, ◌≢◌, Bool, true, false, ◌&&◌, eqb, length, get_or}
 use Rattle.std.proofs.Math.Path.{refl, sym, ap}
 use Rattle.std.proofs.Common.{subst, ◌∙◌, arith}
-use Rattle.std.proofs.Math.Logic.{⊎_elim, ite, Dec·and, Dec·not}
+use Rattle.std.proofs.Math.Logic.{⊎_elim, ite}
+use Rattle.std.proofs.Math.Logic.Dec.{and as dec_and, not as dec_not}
 use Rattle.std.proofs.lemmas.Bool.{false≢true}
 use mathlib.Core.List.Memᴰ
 use mathlib.Core.List.{List, [], ◌∷◌, Memᴰ}
@@ -58,7 +59,7 @@ dec_address : (a b : Address) → Dec (a ≡ b)
 dec_address a b = dec_by
     (λ f. λ i. record { field = record { 0 = f.0 i }; node = record { 0 = f.1 i } })
     (λ e. (rw e, rw e))
-    (Dec·and (dec_eq a.field.0 b.field.0) (dec_eq a.node.0 b.node.0))
+    (dec_and (dec_eq a.field.0 b.field.0) (dec_eq a.node.0 b.node.0))
 
 -- Its CBN says which piece it is, if it is one.
 dec_some : (m : Sent) (p : List ℕ) → Dec ((c : ℕ) × PieceOf m c p)
@@ -103,7 +104,7 @@ module _ (P : List ℕ → Type 0) (dec : (p : List ℕ) → Dec (P p)) where
   dec_each (e ∷ es) = dec_by
       (λ f p x. ⊎_elim (f.0 p) (f.1 p) (Memᴰ.cases_cons x))
       (λ f. (λ p z. f p (Memᴰ.head z), λ p x. f p (Memᴰ.tail x)))
-      (Dec·and (dec_brought e) (dec_each es))
+      (dec_and (dec_brought e) (dec_each es))
 
 -- "no clock call drops it", where the calls are told what `Says` says.
 module _ (q : Setup) (m : Sent) (i : ℕ) where
@@ -127,7 +128,7 @@ module _ (q : Setup) (m : Sent) (i : ℕ) where
 
   dec_kept : (log : List Exchange) (es : List Event) → Dec (KeptBy log es)
   dec_kept log [] = yes tt
-  dec_kept log (e ∷ es) = let told = says q log e in Dec·and (dec_allowed log e told) (dec_kept (exchange e told ∷ log) es)
+  dec_kept log (e ∷ es) = let told = says q log e in dec_and (dec_allowed log e told) (dec_kept (exchange e told ∷ log) es)
 
 -- ---- what is said of an example
 
@@ -169,7 +170,7 @@ Other e p = is_from (sent e).address p ≡ true → (head_of p).given.version.0 
 
 dec_other : (e : Example) (p : List ℕ) → Dec (Other e p)
 dec_other e p = dec_if (dec_true (is_from (sent e).address p))
-    (dec_if (dec_eq (head_of p).given.version.0 (sent e).version.0) (Dec·not (dec_eq (head_of p).given.number.0 (sent e).number.0)))
+    (dec_if (dec_eq (head_of p).given.version.0 (sent e).version.0) (dec_not (dec_eq (head_of p).given.number.0 (sent e).number.0)))
 
 -- Decided with a log that is the past's.
 dec_at : (P : List Exchange → Type 0) (k l : List Exchange) → l ≡ k → Dec (P l) → Dec (P k)
@@ -177,10 +178,10 @@ dec_at P k l is = dec_by (subst P is) (subst P (sym is))
 
 decide : (y : Condition) (e : Example) (l : List Exchange) → l ≡ log e → Dec (Fulfilled y e)
 decide registered e l is =
-    Dec·and (dec_le (suc e.place) (length (senders_of e.setup))) (dec_address (given (senders_of e.setup) e.place) (sent e).address)
+    dec_and (dec_le (suc e.place) (length (senders_of e.setup))) (dec_address (given (senders_of e.setup) e.place) (sent e).address)
 decide length_within e l is = dec_le (length e.octets) 16384
 decide unit_within e l is = dec_true (within 256 1396 e.u)
-decide version_not_0 e l is = Dec·not (dec_eq (sent e).version.0 0)
+decide version_not_0 e l is = dec_not (dec_eq (sent e).version.0 0)
 decide unheard e l is = dec_at (λ k. Each (Other e) (calls k)) (log e) l is (dec_each (Other e) (dec_other e) (calls l))
 decide no_repeat e l is = dec_at (λ k. is_repeat (verdict_for e.setup k (sent e)) ≡ false) (log e) l is (dec_false (is_repeat (verdict_for e.setup l (sent e))))
 decide none_newer e l is = dec_at (λ k. newer_is_open (open_for (sent e) e.place k) (name_in (sent e)) ≡ false) (log e) l is
@@ -227,7 +228,7 @@ computed_with e l is = record {
 computed : Example → Computed
 unfolding
     decided dec_by dec_if dec_or dec_true dec_false dec_eq dec_le dec_octets dec_cut dec_address dec_piece dec_some dec_brings dec_came others one_applies promised_by
-    dec_brought dec_each dec_other dec_at dec_allowed dec_kept decide failing conditions promise computed_with Dec·and Dec·not
+    dec_brought dec_each dec_other dec_at dec_allowed dec_kept decide failing conditions promise computed_with dec_and dec_not
     example tested came_round without turned
     run number octets check rule4 remainder newer layout tabulate octet_of code_of header head_of is_fixed pdu pieces piece_length piece joined
     unit front_possible last_possible several_possible possible bit new_among addresses_within each_group groups_within setup_within first in_order is_from
