@@ -1,0 +1,15 @@
+-- Each part is that of the definition. Assumes nothing.
+use Rattle.rules.specs.calls.Clock.{aged}
+use Rattle.clock.proofs.aged.Goals as goal
+
+pub returns : goal.returns
+unfolding aged
+returns c =
+    simp (
+      c.drops-drop.ensures,
+      c.dies-die.ensures,
+      c.message_after-message.ensures,
+      c.heard_after-heard.ensures,
+      c.with_message-left.ensures,
+      c.with_heard.ensures,
+    )
