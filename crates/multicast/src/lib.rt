@@ -202,7 +202,7 @@ fn tables_within(versions: &[u32], numbers: &[u32], entries: usize) -> bool
 }
 
 // CBN = TBN = 1, and p = n.
-fn one_piece_lem(cut: Cut) -> bool
+fn one_piece(cut: Cut) -> bool
     ensures { result ≡ one_piece cut }
 {
     (cut.cbn == 1) & (cut.tbn == 1) & (cut.bsize as u32 == cut.ml)
