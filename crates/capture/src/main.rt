@@ -9,8 +9,11 @@ ghost use Rattle.std.specs.Prelude.{◌≡◌, ◌≤◌, length};
 use capture_fields::HEAD;
 use capture_lines::{Line, text_of};
 use capture_run::{lent, next_turn, wanted};
-use libc::{STDIN_FILENO, STDOUT_FILENO};
 use state::Receiver;
+
+// The numbers of standard input and standard output.
+const STDIN: i32 = 0;
+const STDOUT: i32 = 1;
 
 // A setup of the program has at most four senders.
 const ROOM: usize = 4 * Receiver::AREA;
@@ -44,12 +47,12 @@ fn read_field(field: &mut [u8]) -> usize
     requires { length field.old ≡ 65538 }
     ensures { result ≤ 65538 }
 {
-    let head = io::read_full(STDIN_FILENO, &mut field[..HEAD]);
+    let head = io::read_full(STDIN, &mut field[..HEAD]);
     let more = wanted(&field[..head]);
     if more == 0 {
         return head;
     }
-    head + io::read_full(STDIN_FILENO, &mut field[HEAD..HEAD + more])
+    head + io::read_full(STDIN, &mut field[HEAD..HEAD + more])
 }
 
 // Whether the line was written.
@@ -57,5 +60,5 @@ fn write_line(line: Line) -> bool {
     let text = text_of(line);
     let octets = text.octets;
     let length = text.length;
-    io::write_all(STDOUT_FILENO, &octets[..length])
+    io::write_all(STDOUT, &octets[..length])
 }

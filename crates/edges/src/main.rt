@@ -11,9 +11,11 @@ use calls::call;
 use edges_calls::look;
 use edges_multicast::{ENTRIES, table_call};
 use io::read_full;
-use libc::STDIN_FILENO;
 use octets::{from, read1, read2};
 use state::Receiver;
+
+// The number of standard input.
+const STDIN: i32 = 0;
 
 // The octets in front of a field's contents: its tag and its length.
 const HEAD: usize = 3;
@@ -59,9 +61,9 @@ fn read_field(field: &mut [u8]) -> usize
     requires { length field.old ≡ 65538 }
     ensures { result ≤ 65538 }
 {
-    if read_full(STDIN_FILENO, &mut field[..HEAD]) < HEAD {
+    if read_full(STDIN, &mut field[..HEAD]) < HEAD {
         return 0;
     }
     let more = read2(field, 1) as usize;
-    HEAD + read_full(STDIN_FILENO, &mut field[HEAD..HEAD + more])
+    HEAD + read_full(STDIN, &mut field[HEAD..HEAD + more])
 }

@@ -13,13 +13,13 @@ pub returns-then-not-fresh : goal.returns-then-not-fresh
 returns-then-not-fresh c =
     let l = c.args.words.now in
     let key = ap (λ (w : ℕ). w % half) (c.at.ensures ∙ ap (word l) c.first_of.ensures) in
-    apart_not c.loop-i.invariant c.requires.0 c.requires.1 c.loop-i-test.true key c.fresh.ensures c.if-not-fresh.true
+    apart_not c.loop-i.invariant c.requires.sized c.requires.count_value c.loop-i-test.true key c.fresh.ensures c.if-not-fresh.true
 
 pub loop-i-preserved : goal.loop-i-preserved
 loop-i-preserved c =
     let l = c.args.words.now in
     let key = ap (λ (w : ℕ). w % half) (c.at.ensures ∙ ap (word l) c.first_of.ensures) in
-    apart_more c.loop-i.invariant c.requires.0 c.requires.1 c.loop-i-test.true key c.fresh.ensures c.if-not-fresh.false
+    apart_more c.loop-i.invariant c.requires.sized c.requires.count_value c.loop-i-test.true key c.fresh.ensures c.if-not-fresh.false
 
 pub returns : goal.returns
 returns c =

@@ -1,0 +1,6 @@
+-- The page is asked of the state that the night leaves. Assumes nothing.
+use Rattle.bench_nights.proofs.adp_pages.Goals as goal
+
+pub returns : goal.returns
+returns c =
+    let ended = c.night-ended.ensures.left in record { answer = rw ended.0 at c.page.ensures; stored = ended.1 }

@@ -1,0 +1,22 @@
+-- The product of two octets fits a machine word. Assumes nothing.
+use mathlib.Core.Path.{refl}
+use native.Mathlib.Omega.{arith}
+use Rattle.rules.specs.calls.Multicast.{entry_place}
+use Rattle.multicast.specs.LentLaws.{octets_product}
+use Rattle.multicast.proofs.entry_place.Goals as goal
+
+pub overflow_mul-result : goal.overflow_mul-result
+overflow_mul-result c = omega (arith, octets_product c.args.sender c.args.groups (omega arith) (omega arith))
+
+pub overflow_add-result : goal.overflow_add-result
+overflow_add-result c = omega (arith, octets_product c.args.sender c.args.groups (omega arith) (omega arith))
+
+pub overflow_mul-result-2 : goal.overflow_mul-result-2
+overflow_mul-result-2 c = omega (arith, octets_product c.args.sender c.args.groups (omega arith) (omega arith))
+
+pub overflow_add-result-2 : goal.overflow_add-result-2
+overflow_add-result-2 c = omega (arith, octets_product c.args.sender c.args.groups (omega arith) (omega arith))
+
+pub returns : goal.returns
+unfolding entry_place
+returns c = refl
