@@ -121,7 +121,9 @@ module _ (w : Receiver) (t : Tables) (g : ℕ) (packet : List ℕ) (h : Head) (l
   same_outcome : cast_outcome found_by t g packet h ≡ cast_outcome (listening w (head_of packet)) t g packet (head_of packet)
   unfolding cast_outcome
   same_outcome = ⊎_elim
-      (λ (v : l.valid ≡ true). rw (look_same v, eh))
+      (λ (v : l.valid ≡ true).
+      ap (λ (x : Listener). cast_outcome x t g packet h) (look_same v)
+      ∙ ap (λ (x : Head). cast_outcome (listening w (head_of packet)) t g packet x) eh)
       (λ (v : l.valid ≡ false).
       let outside : valid w ≡ false = sym (look_valid w (source h) l el) ∙ v in
       rw (listening_nine found_by t g packet h v, listening_nine (listening w (head_of packet)) t g packet (head_of packet) outside))
@@ -130,7 +132,9 @@ module _ (w : Receiver) (t : Tables) (g : ℕ) (packet : List ℕ) (h : Head) (l
   same_tables : cast_tables found_by t g packet h ≡ cast_tables (listening w (head_of packet)) t g packet (head_of packet)
   unfolding cast_outcome kept_by
   same_tables = ⊎_elim
-      (λ (v : l.valid ≡ true). rw (look_same v, eh))
+      (λ (v : l.valid ≡ true).
+      ap (λ (x : Listener). cast_tables x t g packet h) (look_same v)
+      ∙ ap (λ (x : Head). cast_tables (listening w (head_of packet)) t g packet x) eh)
       (λ (v : l.valid ≡ false).
       let outside : valid w ≡ false = sym (look_valid w (source h) l el) ∙ v in
       rw (listening_nine found_by t g packet h v, listening_nine (listening w (head_of packet)) t g packet (head_of packet) outside))

@@ -8,8 +8,8 @@ use Rattle.rules.specs.calls.Multicast.{Tables, tables_within}
 use Rattle.multicast.proofs.early_number.Goals as goal
 
 -- The tables are judged by as many entries as they should have.
-judged : (n k : ℕ) (t : Tables) (within b : Bool) → k ≡ n → within ≡ tables_within k t → not within ≡ b → not (tables_within n t) ≡ b
-judged n k t within b e f g = ap (λ (j : ℕ). not (tables_within j t)) (sym e) ∙ ap not (sym f) ∙ g
+judged : (n k : ℕ) (t : Tables) (within b : Bool) → k ≡ n → within ≡ tables_within k t → within ≡ b → tables_within n t ≡ b
+judged n k t within b e f g = ap (λ (j : ℕ). tables_within j t) (sym e) ∙ sym f ∙ g
 
 pub returns-then-not-s : goal.returns-then-not-s
 unfolding first

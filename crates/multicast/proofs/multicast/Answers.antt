@@ -7,5 +7,5 @@ use Rattle.multicast.proofs.multicast.Goals as goal
 pub returns : goal.returns
 returns c =
     let a = c.args in
-    let both = call_left a.state _ _ _ _ _ c.read_head-h.ensures (c.look-look.ensures ∙ ap (look_at a.state) c.of.ensures) _ _ _ _ c.take-outcome.ensures c.handed.ensures in
-    record { answer = both.0; versions = both.1; numbers = both.2 }
+    let both = call_left a.state _ _ _ _ _ c.read_head-h.ensures (c.look-look.ensures ∙ ap (look_at a.state) c.of.ensures) _ _ _ _ (c.take-outcome.ensures.answer, (c.take-outcome.ensures.versions, c.take-outcome.ensures.numbers)) c.handed.ensures in
+    record { answer = both.0; versions = both.1.0; numbers = both.1.1 }

@@ -2,4 +2,4 @@
 use Rattle.multicast.proofs.place_for.Goals as goal
 
 pub returns : goal.returns
-returns c = rw (c.entry_IsPlace.ensures, c.place.ensures)
+returns c = rw (c.entry_place.ensures, c.place.ensures)
