@@ -30,4 +30,4 @@ returns c =
     let l = c.loop-i in
     let set = c.write_settings in
     let a = c.args in
-    l.invariant.3 ∙ words_all set.new.0 a.state l.i l.invariant.1 (omega arith)
+    l.invariant.3 ∙ words_all set.new.words a.state l.i l.invariant.1 (omega arith)
