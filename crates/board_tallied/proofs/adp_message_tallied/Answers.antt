@@ -8,18 +8,18 @@ pub returns-then-r-le1 : goal.returns-then-r-le1
 returns-then-r-le1 c =
     let m = c.adp_message-r in
     let a = c.args in record {
-      answer = m.ensures.0;
-      left = m.ensures.1.0;
-      stored = m.ensures.1.1;
-      tallied = tally_answer a.tally.now a.state.now a.storage.now a.packet.now _ _ (ap (λ (t : Told). t.number) m.ensures.0) c.if-r-le1.true c.one_more.ensures;
+      answer = m.ensures.answer;
+      left = m.ensures.left;
+      stored = m.ensures.stored;
+      tallied = tally_answer a.tally.now a.state.now a.storage.now a.packet.now _ _ (ap (λ (t : Told). t.number) m.ensures.answer) c.if-r-le1.true c.one_more.ensures;
     }
 
 pub returns-else-r-le1 : goal.returns-else-r-le1
 returns-else-r-le1 c =
     let m = c.adp_message-r in
     let a = c.args in record {
-      answer = m.ensures.0;
-      left = m.ensures.1.0;
-      stored = m.ensures.1.1;
-      tallied = tally_refusal a.tally.now a.state.now a.storage.now a.packet.now _ _ (ap (λ (t : Told). t.number) m.ensures.0) c.if-r-le1.false c.one_more-else-r-le1.ensures;
+      answer = m.ensures.answer;
+      left = m.ensures.left;
+      stored = m.ensures.stored;
+      tallied = tally_refusal a.tally.now a.state.now a.storage.now a.packet.now _ _ (ap (λ (t : Told). t.number) m.ensures.answer) c.if-r-le1.false c.one_more-else-r-le1.ensures;
     }

@@ -4,4 +4,4 @@ use Rattle.edges_fields.proofs.with_sender.Goals as goal
 
 pub returns : goal.returns
 unfolding damaged_sender
-returns c = rw (c.IsPlace-in.ensures, c.sender_in-s.ensures)
+returns c = rw (c.place_in-at.ensures, c.sender_in-s.ensures)
