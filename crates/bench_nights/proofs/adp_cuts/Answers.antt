@@ -12,7 +12,7 @@ unfolding cuts_sum cuts_buffer
 loop-c-preserved c =
     let l = c.loop-c in
     let k = c.cutter-cutting in
-    (omega arith, search (rules, l.invariant.1), simp (add-one, k.ensures.1, l.invariant.2), simp (add-one, c.with_cut-sum.ensures, k.ensures.0, l.invariant.3, l.invariant.2))
+    (omega arith, search (rules, l.invariant.1), simp (add-one, k.ensures.written, l.invariant.2), simp (add-one, c.with_cut-sum.ensures, k.ensures.answer, l.invariant.3, l.invariant.2))
 
 pub returns : goal.returns
 returns c =

@@ -3,4 +3,5 @@ use Rattle.bench_nights.proofs.adp_pages.Goals as goal
 
 pub returns : goal.returns
 returns c =
-    let ended = c.night-ended.ensures.left in record { answer = rw ended.0 at c.page.ensures; stored = ended.1 }
+    let ended = c.night-ended.ensures in
+    record { answer = rw ended.left at c.page.ensures; stored = ended.stored }

@@ -37,15 +37,18 @@ loop-i-preserved c =
     let more = c.loop-i-test.true in (
       omega (arith, more),
       ends_within _ _ l.at _ l.invariant.1 p.ensures,
-      ap length m.ensures.1 ∙ same_room _ _ _ ∙ l.invariant.2,
+      ap length m.ensures.stored ∙ same_room _ _ _ ∙ l.invariant.2,
       turn _ _ _ l.invariant.3 (omega (arith, more)) p.ensures
-          (simp (c.with_answer-sum.ensures, c.part.ensures, m.ensures.0, m.ensures.1))
-          (simp (m.ensures.0, m.ensures.1)),
+          (simp (c.with_answer-sum.ensures, c.part.ensures, m.ensures.answer, m.ensures.stored))
+          (simp (m.ensures.answer, m.ensures.stored)),
     )
 
 pub returns : goal.returns
 returns c =
     let l = c.loop-i in
     let end = reached _ _ l.invariant.3 (omega arith) in
-    let both = (counted _ _ l.invariant.3 (omega arith), (ap (λ (w : World). w.state) end, ap (λ (w : World). w.storage) end)) in
-    record { answer = both.0; left = both.1; stored = both.2 }
+    record {
+      answer = counted _ _ l.invariant.3 (omega arith);
+      left = ap (λ (w : World). w.state) end;
+      stored = ap (λ (w : World). w.storage) end;
+    }

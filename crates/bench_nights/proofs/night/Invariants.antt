@@ -9,7 +9,7 @@ invariant-loop-i l =
     (l.i ≤ length l.sizes)
     × (l.at ≤ length l.packets)
     × (length l.storage ≡ length l.initial.storage)
-    × Towards l.sizes l.packets (begun (board_of l.mode l.n1 l.t l.senders) l.initial.storage) l.sum (record { state = l.a.state; l.storage = l.storage }) l.at l.i
+    × Towards l.sizes l.packets (begun (board_of l.mode l.n1 l.t l.senders) l.initial.storage) l.sum (record { state = l.a.state; storage = l.storage }) l.at l.i
 
 abbrev pub decreases-loop-i : goal.decreases-loop-i
 decreases-loop-i l = length l.sizes - l.i

@@ -12,7 +12,7 @@ loop-i-preserved c =
     let l = c.loop-i in
     let places = c.args.places.now in
     let next = rw (drop-cons places l.i 0 c.loop-i-test.true) at l.invariant.1 in
-    (omega arith, rw (c.wrapping_add_u64-sum.ensures, c.held-held.ensures, add-one l.i) next)
+    (omega arith, rw (c.wrapping_add_u64-sum.ensures.value, c.held-held.ensures, add-one l.i) next)
 
 pub returns : goal.returns
 unfolding held_sum

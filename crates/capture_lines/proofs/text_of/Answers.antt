@@ -1,0 +1,27 @@
+-- Each arm is that of the definition. Assumes nothing.
+use native.Mathlib.Omega.{arith}
+use Rattle.capture_lines.specs.Line.{line_of}
+use Rattle.capture_lines.specs.LineLaws.{text_counts, carries_letter}
+use Rattle.capture_lines.proofs.text_of.Goals as goal
+
+pub newline-requires : goal.newline-requires
+newline-requires c = omega (arith, (carries_letter 69 _ c.letter.ensures).most)
+
+pub returns-in-Setup : goal.returns-in-Setup
+unfolding line_of
+returns-in-Setup c = record { value = rw c.line-1.given.1 c.one.ensures; prefix_len = text_counts _ _ c.one.ensures }
+
+pub returns-in-Message : goal.returns-in-Message
+unfolding line_of
+returns-in-Message c = record { value = rw c.line-in-Message-1.given.1 c.four.ensures; prefix_len = text_counts _ _ c.four.ensures }
+
+pub returns-in-Clock : goal.returns-in-Clock
+unfolding line_of
+returns-in-Clock c = record { value = rw c.line-in-Clock-1.given.1 c.three.ensures; prefix_len = text_counts _ _ c.three.ensures }
+
+pub returns-in-Alive : goal.returns-in-Alive
+unfolding line_of
+returns-in-Alive c = record {
+      value = rw c.line-in-Alive-1.given.1 c.one-in-Alive.ensures;
+      prefix_len = text_counts _ _ c.one-in-Alive.ensures;
+    }
