@@ -1,4 +1,3 @@
 pub mod Night
-pub mod NightLaws
 pub mod Cuts
 pub mod Pages

@@ -1,2 +1,1 @@
 pub mod Aged
-pub mod AgedLaws

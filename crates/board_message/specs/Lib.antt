@@ -1,2 +1,1 @@
 pub mod private
-pub mod MessageLaws

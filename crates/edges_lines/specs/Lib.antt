@@ -1,2 +1,1 @@
 pub mod Sum
-pub mod SumLaws

@@ -6,7 +6,6 @@ use Rattle.map.specs.Map.{bit}
 use Rattle.fault.specs.Section.{Section, bits_size, lowest_first, packed, numbers_of, pairs_of, octets_of, are_errors, is_within}
 use Rattle.fault.specs.Bits.{none_above}
 use Rattle.fault.specs.Places.{errors_from}
-use Rattle.fault.specs.SectionLaws.{decide, maybe_section}
 use Rattle.fault.specs.Reading.{is_section, report_of, reading_of, dead_at, error_at}
 use Rattle.fault.specs.Writing.{errors_given, keeps_rules, writing_of, writing_told}
 use Rattle.fault.specs.private.Judged.{judged}
@@ -89,6 +88,6 @@ edges =
 
 pub every_edge : all edges ≡ true
 unfolding
-    all met edges same is_section maybe_section decide judged none_above are_errors errors_from report_of reading_of dead_at error_at number octets run bit
+    all met edges same is_section judged none_above are_errors errors_from report_of reading_of dead_at error_at number octets run bit
     lowest_first packed numbers_of pairs_of octets_of is_within errors_given keeps_rules writing_of
 every_edge = refl {a = true}

@@ -1,14 +1,7 @@
 pub mod private
 pub mod Section
 pub mod Bits
-pub mod BitsLaws
 pub mod Places
-pub mod ErrorsLaws
-pub mod PlacesLaws
-pub mod SectionLaws
 pub mod Reading
-pub mod ReadingLaws
 pub mod Writing
-pub mod WritingLaws
-pub mod RoundLaws
 pub mod Edges

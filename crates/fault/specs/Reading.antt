@@ -2,20 +2,20 @@
 -- by its index, "the options as a returned part". All but the first is said of any octets, by the counts in them, and
 -- judges nothing; of a section's octets it is what the section says (ReadingLaws).
 use Rattle.std.specs.Prelude.{ℕ, ◌+◌, ◌-◌, ◌*◌, ◌/◌, ◌%◌, Bool, true, false, cond, ◌&&◌, List, eqb, leb, ltb, length, replicate}
-use Rattle.std.proofs.Math.Logic.{ite}
+use Rattle.std.proofs.Math.Pow.{are_bytes}
 use Rattle.octets.specs.Number.{octet, number}
 use Rattle.octets.specs.Run.{run}
 use Rattle.map.specs.Map.{bit}
 use Rattle.fault.specs.declared.Error.{Error}
 use Rattle.fault.specs.declared.reading.Report.{Report}
 use Rattle.fault.specs.Section.{Section, bits_size}
-use Rattle.fault.specs.SectionLaws.{maybe_section}
+use Rattle.fault.specs.private.Judged.{judged}
 use Rattle.fault.specs.Places.{modules_in, errors_in, list_at, count_at, options_in}
 
--- Whether these are the octets of a section within the rules. That this can be told is a law; whoever tells it tells the
--- same.
+-- Whether these are the octets of a section within the rules, by what stands at their places. It is so exactly of the octets
+-- of such sections (`is_section_lem`, `section_is`); so whoever tells it tells the same (`section_told`).
 unfoldable pub is_section : List ℕ → Bool
-is_section s = ite (maybe_section s) true false
+is_section s = are_bytes s && judged s
 
 -- "counts and name by value"; 0 says that it was read.
 unfoldable pub report_of : List ℕ → Report

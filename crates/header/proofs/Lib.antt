@@ -1,1 +1,5 @@
 pub mod Asks
+pub mod CodesLaws
+pub mod HeadLaws
+pub mod LayoutLaws
+pub mod PrintedLaws

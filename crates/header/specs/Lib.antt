@@ -1,10 +1,6 @@
 pub mod Codes
-pub mod CodesLaws
 pub mod Layout
-pub mod LayoutLaws
 pub mod Places
 pub mod Head
-pub mod HeadLaws
 pub mod Printed
-pub mod PrintedLaws
 pub mod private

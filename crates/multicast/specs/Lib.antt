@@ -1,3 +1,2 @@
 -- The tables as they are lent (Lent), and what the code knows of them (LentLaws).
 pub mod Lent
-pub mod LentLaws

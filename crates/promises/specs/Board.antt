@@ -2,7 +2,7 @@
 -- that the words are, and leaves words that are the state which that call leaves. So what is promised of courses is
 -- promised of every board whose calls meet their contracts. Proved in BoardLaws.
 use Rattle.std.specs.Prelude.{ℕ, ◌*◌, ◌≡◌, true, List, [], ◌∷◌, length}
-use Rattle.octets.specs.NumberLaws.{Octets}
+use Rattle.octets.specs.Number.{Octets}
 use Rattle.answers.specs.declared.Setup.{Setup}
 use Rattle.answers.specs.Told.{call_number}
 use Rattle.rules.specs.calls.Alive.{alive_answer}

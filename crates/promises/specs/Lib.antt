@@ -1,14 +1,5 @@
 pub mod Course
 pub mod AsPrinted
-pub mod AsPrintedLaws
-pub mod CourseLaws
 pub mod Counted
 pub mod Board
-pub mod BoardLaws
-pub mod CountedLaws
 pub mod Demands
-pub mod FaultLaws
-pub mod GroupLaws
-pub mod DemandsLaws
-pub mod ComesBackLaws
-pub mod Kept

@@ -2,7 +2,3 @@
 pub mod Past
 -- Small pasts with the answers that 01 gives.
 pub mod Listings
--- Proved of them.
-pub mod PastLaws
-pub mod listed
-pub mod ListingsLaws

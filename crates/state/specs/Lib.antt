@@ -1,10 +1,5 @@
 pub mod State
 pub mod Held
-pub mod HeldLaws
 pub mod Limits
-pub mod LimitsLaws
 pub mod Key
-pub mod KeyLaws
-pub mod WithinLaws
 pub mod Table
-pub mod TableLaws

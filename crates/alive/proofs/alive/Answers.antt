@@ -1,5 +1,5 @@
 -- One pass over the table, the judge, and what an alive signal does. Assumes nothing.
-use Rattle.rules.specs.calls.AliveLaws.{signal_refused, signal_place, signal_noted}
+use Rattle.rules.proofs.calls.AliveLaws.{signal_refused, signal_place, signal_noted}
 use Rattle.rules.specs.calls.Message.{with_sender}
 use Rattle.alive.proofs.alive.Goals as goal
 

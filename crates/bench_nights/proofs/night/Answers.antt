@@ -1,9 +1,9 @@
 -- After i packets the rest leads to the night's end. Assumes nothing.
 use Rattle.std.proofs.Common.{◌≡◌, ◌-◌, ◌≤◌, length, refl, ap, ◌∙◌, arith, rules}
 use Rattle.rules.specs.pasts.Past.{World, step}
-use Rattle.rules.specs.pasts.PastLaws.{same_room}
+use Rattle.rules.proofs.pasts.PastLaws.{same_room}
 use Rattle.bench_nights.specs.Night.{begun, sum_by}
-use Rattle.bench_nights.specs.NightLaws.{ends_within, begins, turn, counted, reached}
+use Rattle.bench_nights.proofs.NightLaws.{ends_within, begins, turn, counted, reached}
 use Rattle.bench_nights.proofs.night.Goals as goal
 
 pub loop-i-init : goal.loop-i-init

@@ -2,7 +2,7 @@
 use Prim.Native.Nat.{ℕ, ◌%◌}
 use mathlib.Core.Path.{ap}
 use native.Mathlib.Omega.{arith}
-use Rattle.board_alive.specs.HeardLaws.{met_refused, met_noted}
+use Rattle.board_alive.proofs.HeardLaws.{met_refused, met_noted}
 use Rattle.board_alive.proofs.adp_alive.Goals as goal
 
 pub returns-then-number-ne0 : goal.returns-then-number-ne0

@@ -5,9 +5,9 @@ use native.Mathlib.Nat.{mod-eq_of_lt}
 use native.Mathlib.Omega.{arith}
 use lib.ListN.{length, length-set}
 use Rattle.words.specs.Words.{word}
-use Rattle.words.specs.StateLaws.{state_facts}
-use Rattle.words_look.specs.LookLaws.{held_by}
-use Rattle.board_clock.specs.TickedLaws.{met_nine, met_back, aging_none, aging_more, met_on, map_short}
+use Rattle.words.proofs.StateLaws.{state_facts}
+use Rattle.words_look.proofs.LookLaws.{held_by}
+use Rattle.board_clock.proofs.TickedLaws.{met_nine, met_back, aging_none, aging_more, met_on, map_short}
 use Rattle.board_clock.proofs.adp_clock.Goals as goal
 
 pub returns-then-not-within : goal.returns-then-not-within

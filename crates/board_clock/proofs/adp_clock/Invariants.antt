@@ -3,8 +3,8 @@ use Prim.Native.Nat.{◌-◌, ◌%◌, ◌≤◌}
 use mathlib.Core.Path.{◌≡◌, ◌∙◌}
 use Rattle.state.specs.State.{senders_most}
 use Rattle.words.specs.Words.{word}
-use Rattle.words_look.specs.LookLaws.{Held}
-use Rattle.board_clock.specs.TickedLaws.{Aging}
+use Rattle.words_look.proofs.LookLaws.{Held}
+use Rattle.board_clock.proofs.TickedLaws.{Aging}
 use Rattle.board_clock.proofs.adp_clock.Given as goal
 
 abbrev pub invariant-loop-i : goal.invariant-loop-i

@@ -1,6 +1,6 @@
 -- Each way out is a case of the definition. Assumes nothing.
 use native.Mathlib.Omega.{arith}
-use Rattle.board_held.specs.HeldLaws.{past_senders, past_places, at_sender}
+use Rattle.board_held.proofs.HeldLaws.{past_senders, past_places, at_sender}
 use Rattle.board_held.proofs.adp_held.Goals as goal
 
 pub returns-then-at-place : goal.returns-then-at-place

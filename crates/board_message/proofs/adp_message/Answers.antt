@@ -1,7 +1,7 @@
 -- What is told before the header is read, two judges, and what an admitted PDU does. Assumes nothing.
 use Prim.Native.Nat.{ℕ, ◌%◌}
 use mathlib.Core.Path.{ap}
-use Rattle.board_message.specs.MessageLaws.{met_first, look_by, met_early, met_late, met_taken}
+use Rattle.board_message.proofs.MessageLaws.{met_first, look_by, met_early, met_late, met_taken}
 use Rattle.board_message.proofs.adp_message.Goals as goal
 
 pub returns-then-early-ne0 : goal.returns-then-early-ne0

@@ -1,5 +1,5 @@
 -- The header is read, the words looked at once, and the packet taken. Assumes nothing.
-use Rattle.board_multicast.specs.HeardLaws.{met}
+use Rattle.board_multicast.proofs.HeardLaws.{met}
 use Rattle.board_multicast.proofs.adp_multicast.Goals as goal
 
 pub returns : goal.returns

@@ -2,10 +2,10 @@
 use Prim.Native.Nat.{ℕ, ◌-◌, ◌%◌, ◌≤◌}
 use mathlib.Core.Path.{◌≡◌, sym, ap, ◌∙◌}
 use native.Mathlib.Omega.{arith}
-use Rattle.map.specs.MapLaws.{lowest_most}
-use Rattle.words_look.specs.LookLaws.{held_by}
-use Rattle.words_look.specs.HeldLaws.{count_octet}
-use Rattle.board_question.specs.MissingLaws.{met_nine, none_more, met_piece, met_none}
+use Rattle.map.proofs.MapLaws.{lowest_most}
+use Rattle.words_look.proofs.LookLaws.{held_by}
+use Rattle.words_look.proofs.HeldLaws.{count_octet}
+use Rattle.board_question.proofs.MissingLaws.{met_nine, none_more, met_piece, met_none}
 use Rattle.board_question.proofs.adp_question.Goals as goal
 
 pub returns-then-not-within : goal.returns-then-not-within

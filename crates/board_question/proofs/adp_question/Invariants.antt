@@ -2,8 +2,8 @@
 use Prim.Native.Nat.{◌-◌, ◌%◌, ◌≤◌}
 use mathlib.Core.Path.{◌≡◌, ◌∙◌}
 use Rattle.words.specs.Words.{word}
-use Rattle.words_look.specs.LookLaws.{Held}
-use Rattle.board_question.specs.MissingLaws.{NoneTo}
+use Rattle.words_look.proofs.LookLaws.{Held}
+use Rattle.board_question.proofs.MissingLaws.{NoneTo}
 use Rattle.board_question.proofs.adp_question.Given as goal
 
 abbrev pub invariant-loop-i : goal.invariant-loop-i

@@ -4,8 +4,8 @@ use mathlib.Core.Path.{◌≡◌, sym, ap, ◌∙◌}
 use mathlib.Core.List.{◌++◌}
 use native.Mathlib.Omega.{arith}
 use lib.ListN.{length}
-use Rattle.octets.specs.RunLaws.{length_laid}
-use Rattle.board_setup.specs.StartedLaws.{settings_many, senders_none, sender_set, words_all}
+use Rattle.octets.proofs.RunLaws.{length_laid}
+use Rattle.board_setup.proofs.StartedLaws.{settings_many, senders_none, sender_set, words_all}
 use Rattle.board_setup.proofs.write.Goals as goal
 
 pub loop-i-init : goal.loop-i-init

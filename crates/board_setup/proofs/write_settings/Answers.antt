@@ -2,8 +2,8 @@
 use mathlib.Core.Path.{sym}
 use native.Mathlib.Omega.{arith}
 use lib.ListN.{length-set}
-use Rattle.words.specs.WordsLaws.{flag_byte}
-use Rattle.board_setup.specs.StartedLaws.{settings_set}
+use Rattle.words.proofs.WordsLaws.{flag_byte}
+use Rattle.board_setup.proofs.StartedLaws.{settings_set}
 use Rattle.board_setup.proofs.write_settings.Goals as goal
 
 pub bounds-words-4 : goal.bounds-words-4

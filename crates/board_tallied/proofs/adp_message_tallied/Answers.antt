@@ -1,7 +1,7 @@
 -- The call, and one of two counts. Assumes nothing.
 use mathlib.Core.Path.{ap}
 use Rattle.board.specs.declared.Told.{Told}
-use Rattle.board.specs.TalliedLaws.{tally_answer, tally_refusal}
+use Rattle.board.proofs.TalliedLaws.{tally_answer, tally_refusal}
 use Rattle.board_tallied.proofs.adp_message_tallied.Goals as goal
 
 pub returns-then-r-le1 : goal.returns-then-r-le1

@@ -12,7 +12,7 @@ use borrow.Author.Rules.{rules}
 use borrow.Author.Tests.{not-false}
 use Rattle.state.specs.declared.Receiver.{Receiver}
 use Rattle.capture_run.specs.Run.{OfRun}
-use Rattle.capture_run.specs.RunLaws.{of_none, goes_on}
+use Rattle.capture_run.proofs.RunLaws.{of_none, goes_on}
 use Rattle.capture.proofs.main.Statement.{statement}
 use Rattle.capture.proofs.main.Tie as tie
 

@@ -3,7 +3,7 @@ use native.Mathlib.Omega.{arith}
 use borrow.Author.Tests.{eq-eqb, ne_eqb, lt-ltb}
 use Rattle.capture_fields.specs.Field.{next_of}
 use mathlib.Core.Path.{sym, ◌∙◌}
-use Rattle.capture_fields.specs.FieldLaws.{next_bad, next_cut, next_whole}
+use Rattle.capture_fields.proofs.FieldLaws.{next_bad, next_cut, next_whole}
 use Rattle.capture_fields.proofs.next_field.Goals as goal
 
 pub returns-then-octets-eq0 : goal.returns-then-octets-eq0

@@ -1,6 +1,6 @@
 -- The words, one more, and a newline. Assumes nothing.
 use native.Mathlib.Omega.{arith}
-use Rattle.capture_lines.specs.LineLaws.{carries_word, carries_newline}
+use Rattle.capture_lines.proofs.LineLaws.{carries_word, carries_newline}
 use Rattle.capture_lines.proofs.four.Goals as goal
 
 pub word-requires : goal.word-requires

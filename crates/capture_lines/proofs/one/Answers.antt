@@ -1,6 +1,6 @@
 -- Word by word. Assumes nothing.
 use native.Mathlib.Omega.{arith}
-use Rattle.capture_lines.specs.LineLaws.{carries_letter, carries_word, carries_newline}
+use Rattle.capture_lines.proofs.LineLaws.{carries_letter, carries_word, carries_newline}
 use Rattle.capture_lines.proofs.one.Goals as goal
 
 pub word-requires : goal.word-requires

@@ -1,7 +1,7 @@
 -- Each arm is that of the definition. Assumes nothing.
 use native.Mathlib.Omega.{arith}
 use Rattle.capture_lines.specs.Line.{line_of}
-use Rattle.capture_lines.specs.LineLaws.{text_counts, carries_letter}
+use Rattle.capture_lines.proofs.LineLaws.{text_counts, carries_letter}
 use Rattle.capture_lines.proofs.text_of.Goals as goal
 
 pub newline-requires : goal.newline-requires

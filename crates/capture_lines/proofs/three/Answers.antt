@@ -1,6 +1,6 @@
 -- The words, and a newline. Assumes nothing.
 use native.Mathlib.Omega.{arith}
-use Rattle.capture_lines.specs.LineLaws.{carries_newline}
+use Rattle.capture_lines.proofs.LineLaws.{carries_newline}
 use Rattle.capture_lines.proofs.three.Goals as goal
 
 pub newline-requires : goal.newline-requires

@@ -1,6 +1,6 @@
 -- Word by word. Assumes nothing.
 use native.Mathlib.Omega.{arith}
-use Rattle.capture_lines.specs.LineLaws.{carries_letter, carries_word}
+use Rattle.capture_lines.proofs.LineLaws.{carries_letter, carries_word}
 use Rattle.capture_lines.proofs.three_words.Goals as goal
 
 pub word-requires : goal.word-requires

@@ -3,8 +3,8 @@ use Prim.Native.Nat.{◌≤◌, ◌-◌}
 use mathlib.Core.Path.{◌≡◌, refl, sym, ap, ◌∙◌}
 use native.Mathlib.Omega.{arith}
 use Rattle.rules.specs.calls.Clock.{drops, dies, aged_senders, map_where, not_ticked}
-use Rattle.rules.specs.calls.ClockLaws.{map_again, map_below, state_more, ticked_is, clock_nine, clock_back_lem, clock_on}
-use Rattle.state.specs.LimitsLaws.{valid_count}
+use Rattle.rules.proofs.calls.ClockLaws.{map_again, map_below, state_more, ticked_is, clock_nine, clock_back_lem, clock_on}
+use Rattle.state.proofs.LimitsLaws.{valid_count}
 use Rattle.state.specs.declared.Receiver.{Receiver}
 use Rattle.clock.proofs.clock.Goals as goal
 

@@ -1,7 +1,7 @@
 -- A place that is not in the map yet is added to it. Assumes nothing.
 use mathlib.Core.Path.{sym}
 use native.Mathlib.Nat.{add-zero}
-use Rattle.rules.specs.calls.ClockLaws.{shift_sixteen, place_fits}
+use Rattle.rules.proofs.calls.ClockLaws.{shift_sixteen, place_fits}
 use Rattle.clock.proofs.with_place.Goals as goal
 
 pub overflow_add-result : goal.overflow_add-result

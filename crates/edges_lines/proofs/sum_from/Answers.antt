@@ -4,7 +4,7 @@ use mathlib.Core.Path.{◌≡◌, refl, sym, ap, ◌∙◌}
 use native.Mathlib.Omega.{arith}
 use lib.ListN.{drop}
 use Rattle.edges_lines.specs.Sum.{sum_from}
-use Rattle.edges_lines.specs.SumLaws.{sum_below, sum_next, sum_end}
+use Rattle.edges_lines.proofs.SumLaws.{sum_below, sum_next, sum_end}
 use Rattle.edges_lines.proofs.sum_from.Goals as goal
 
 pub loop-i-init : goal.loop-i-init

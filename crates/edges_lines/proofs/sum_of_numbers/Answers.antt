@@ -5,7 +5,7 @@ use native.Mathlib.Omega.{arith}
 use lib.ListN.{drop, get_or, replicate}
 use Rattle.octets.specs.Number.{octets}
 use Rattle.edges_lines.specs.Sum.{sum_from, in_octets}
-use Rattle.edges_lines.specs.SumLaws.{sum_from_below, numbers_next, numbers_end, four_octets}
+use Rattle.edges_lines.proofs.SumLaws.{sum_from_below, numbers_next, numbers_end, four_octets}
 use Rattle.edges_lines.proofs.sum_of_numbers.Goals as goal
 
 pub loop-i-init : goal.loop-i-init

@@ -1,7 +1,7 @@
 -- The call, and its line. Assumes nothing.
 use borrow.Author.Rules.{rules}
 use Rattle.multicast.specs.Lent.{tables}
-use Rattle.edges_multicast.specs.FieldsLaws.{left_cast}
+use Rattle.edges_multicast.proofs.FieldsLaws.{left_cast}
 use Rattle.edges_multicast.proofs.lent_call.Statement.{statement}
 use Rattle.edges_multicast.proofs.lent_call.Tie as tie
 

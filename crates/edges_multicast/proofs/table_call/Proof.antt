@@ -2,7 +2,7 @@
 use mathlib.Core.Path.{refl}
 use borrow.Author.Rules.{rules}
 use Rattle.multicast.specs.Lent.{tables}
-use Rattle.edges_multicast.specs.FieldsLaws.{left_setup, left_call, left_damage, left_shown, left_same}
+use Rattle.edges_multicast.proofs.FieldsLaws.{left_setup, left_call, left_damage, left_shown, left_same}
 use Rattle.edges_multicast.proofs.table_call.Statement.{statement}
 use Rattle.edges_multicast.proofs.table_call.Tie as tie
 

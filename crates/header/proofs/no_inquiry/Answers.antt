@@ -1,5 +1,5 @@
 -- The 12 octets are a number of 8 and one of 4. Assumes nothing.
-use Rattle.octets.specs.NumberLaws.{number_zero}
+use Rattle.octets.proofs.NumberLaws.{number_zero}
 use Rattle.header.proofs.no_inquiry.Goals as goal
 
 pub returns : goal.returns

@@ -1,7 +1,7 @@
 -- The three parts one after the other are the header. Assumes nothing.
 use mathlib.Core.Path.{sym}
 use native.Mathlib.Omega.{arith}
-use Rattle.header.specs.HeadLaws.{headed_short, filled_headed}
+use Rattle.header.proofs.HeadLaws.{headed_short, filled_headed}
 use Rattle.header.proofs.write_head.Goals as goal
 
 pub returns-then-buffer-ge-SIZE : goal.returns-then-buffer-ge-SIZE

@@ -1,5 +1,5 @@
 -- A shift and a mask are the bit. Assumes nothing.
-use Rattle.map.specs.MapLaws.{code_bit}
+use Rattle.map.proofs.MapLaws.{code_bit}
 use Rattle.map.proofs.bit_of.Goals as goal
 
 pub returns : goal.returns

@@ -1,6 +1,6 @@
 -- All ones, shifted down to t of them. Assumes nothing.
 use mathlib.Core.Path.{◌≡◌}
-use Rattle.map.specs.MapLaws.{code_full}
+use Rattle.map.proofs.MapLaws.{code_full}
 use Rattle.map.proofs.full.Goals as goal
 
 pub returns-then-t-eq0 : goal.returns-then-t-eq0

@@ -1,7 +1,7 @@
 -- No bit past the 64th is set. Assumes nothing.
 use mathlib.Core.Path.{sym, ◌∙◌}
 use native.Mathlib.Omega.{arith}
-use Rattle.map.specs.MapLaws.{holds_above}
+use Rattle.map.proofs.MapLaws.{holds_above}
 use Rattle.map.proofs.holds.Goals as goal
 
 pub returns-then-c-gt-MOST_PIECES : goal.returns-then-c-gt-MOST_PIECES

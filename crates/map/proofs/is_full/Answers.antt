@@ -3,7 +3,7 @@ use mathlib.Core.Path.{◌≡◌, sym, ◌∙◌}
 use native.Mathlib.Omega.{arith}
 use borrow.Author.Tests.{ne_eqb}
 use Rattle.map.specs.Map.{full_map}
-use Rattle.map.specs.MapLaws.{full_above, full_is}
+use Rattle.map.proofs.MapLaws.{full_above, full_is}
 use Rattle.map.proofs.is_full.Goals as goal
 
 pub returns-then-t-gt-MOST_PIECES : goal.returns-then-t-gt-MOST_PIECES

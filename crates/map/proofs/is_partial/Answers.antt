@@ -3,7 +3,7 @@ use mathlib.Core.Path.{sym}
 use native.Mathlib.Omega.{arith}
 use mathlib.Core.Bool.{and-true}
 use borrow.Author.Tests.{lt-ltb}
-use Rattle.map.specs.MapLaws.{full_above, partial_is}
+use Rattle.map.proofs.MapLaws.{full_above, partial_is}
 use Rattle.map.proofs.is_partial.Goals as goal
 
 pub returns-then-t-gt-MOST_PIECES : goal.returns-then-t-gt-MOST_PIECES

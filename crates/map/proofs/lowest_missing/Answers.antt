@@ -3,7 +3,7 @@ use mathlib.Core.Path.{ap}
 use native.Mathlib.Omega.{arith}
 use Prim.Native.Nat.{ℕ, ◌+◌, ◌-◌}
 use lib.Count.{trailing_le}
-use Rattle.map.specs.MapLaws.{code_lowest}
+use Rattle.map.proofs.MapLaws.{code_lowest}
 use Rattle.map.proofs.lowest_missing.Goals as goal
 
 pub overflow_add-result : goal.overflow_add-result

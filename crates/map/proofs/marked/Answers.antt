@@ -3,7 +3,7 @@ use mathlib.Core.Path.{sym, ◌∙◌}
 use native.Mathlib.Omega.{arith}
 use borrow.Author.Tests.{le-leb, lt-leb}
 use Rattle.map.specs.Map.{marked, holds}
-use Rattle.map.specs.MapLaws.{holds_not}
+use Rattle.map.proofs.MapLaws.{holds_not}
 use Rattle.map.proofs.marked.Goals as goal
 
 pub returns-then-c-gt-MOST_PIECES : goal.returns-then-c-gt-MOST_PIECES

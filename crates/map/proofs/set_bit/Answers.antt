@@ -1,5 +1,5 @@
 -- Setting a clear bit adds its power. Assumes nothing.
-use Rattle.map.specs.MapLaws.{code_mark}
+use Rattle.map.proofs.MapLaws.{code_mark}
 use Rattle.map.proofs.set_bit.Goals as goal
 
 pub returns : goal.returns

@@ -1,7 +1,7 @@
 -- The product of two octets fits a machine word. Assumes nothing.
 use mathlib.Core.Path.{refl}
 use native.Mathlib.Omega.{arith}
-use Rattle.multicast.specs.LentLaws.{octets_product}
+use Rattle.multicast.proofs.LentLaws.{octets_product}
 use Rattle.multicast.proofs.entries.Goals as goal
 
 pub overflow_mul-result : goal.overflow_mul-result

@@ -2,7 +2,7 @@
 use mathlib.Core.Path.{refl}
 use native.Mathlib.Omega.{arith}
 use Rattle.rules.specs.calls.Multicast.{entry_place}
-use Rattle.multicast.specs.LentLaws.{octets_product}
+use Rattle.multicast.proofs.LentLaws.{octets_product}
 use Rattle.multicast.proofs.entry_place.Goals as goal
 
 pub overflow_mul-result : goal.overflow_mul-result

@@ -1,7 +1,7 @@
 -- The header is read, the state looked at once, and the packet taken. Assumes nothing.
 use mathlib.Core.Path.{ap, ◌∙◌}
 use Rattle.state.specs.Table.{look_at}
-use Rattle.multicast.specs.LentLaws.{call_left}
+use Rattle.multicast.proofs.LentLaws.{call_left}
 use Rattle.multicast.proofs.multicast.Goals as goal
 
 pub returns : goal.returns

@@ -1,7 +1,7 @@
 -- Each return is the number of the first row that applies, and where none does the verdict. Assumes nothing.
 use mathlib.Core.Path.{sym, ap, ◌∙◌}
 use Rattle.ring.specs.Check.{is_repeat}
-use Rattle.multicast.specs.LentLaws.{early_refused, late_mode, late_cut, late_repeat, late_none}
+use Rattle.multicast.proofs.LentLaws.{early_refused, late_mode, late_cut, late_repeat, late_none}
 use Rattle.multicast.proofs.outcome_of.Goals as goal
 
 pub returns-then-early-ne0 : goal.returns-then-early-ne0

@@ -5,9 +5,9 @@ use native.Mathlib.Numerals.{add-one}
 use native.Mathlib.Omega.{arith}
 use borrow.Author.Tests.{eq-eqb}
 use Rattle.rules.specs.calls.Multicast.{each_entry, tables_within}
-use Rattle.rules.specs.calls.MulticastLaws.{entries_more}
+use Rattle.rules.proofs.calls.MulticastLaws.{entries_more}
 use Rattle.multicast.specs.Lent.{tables}
-use Rattle.multicast.specs.LentLaws.{versions_wrong, numbers_wrong}
+use Rattle.multicast.proofs.LentLaws.{versions_wrong, numbers_wrong}
 use Rattle.multicast.proofs.tables_within.Goals as goal
 
 pub returns-then-versions-entries : goal.returns-then-versions-entries

@@ -1,5 +1,5 @@
 -- The entry is written where the delivery is kept, and otherwise nothing. Assumes nothing.
-use Rattle.multicast.specs.LentLaws.{left_written, left_same}
+use Rattle.multicast.proofs.LentLaws.{left_written, left_same}
 use Rattle.multicast.proofs.take.Goals as goal
 
 pub returns-then-is_kept : goal.returns-then-is_kept

@@ -5,7 +5,7 @@ use native.Mathlib.Omega.{arith}
 use native.Mathlib.Numerals.{add-one}
 use lib.ListN.{length, length-set}
 use lib.Seq.{paste-zero, paste-suc}
-use Rattle.octets.specs.RunLaws.{laid_paste}
+use Rattle.octets.proofs.RunLaws.{laid_paste}
 use Rattle.octets.proofs.copy.Goals as goal
 
 pub loop-i-init : goal.loop-i-init

@@ -1,7 +1,7 @@
 -- The run is laid down exactly where it ends within the slice. Assumes nothing.
 use mathlib.Core.Path.{sym, ◌∙◌}
 use borrow.Author.Tests.{leb-true}
-use Rattle.octets.specs.RunLaws.{laid_unfit}
+use Rattle.octets.proofs.RunLaws.{laid_unfit}
 use Rattle.octets.proofs.lay.Goals as goal
 
 pub move_over-requires : goal.move_over-requires

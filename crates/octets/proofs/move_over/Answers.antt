@@ -2,7 +2,7 @@
 use mathlib.Core.Path.{◌∙◌}
 use native.Mathlib.Omega.{arith}
 use lib.ListN.{length-take}
-use Rattle.octets.specs.RunLaws.{laid_first}
+use Rattle.octets.proofs.RunLaws.{laid_first}
 use Rattle.octets.proofs.move_over.Goals as goal
 
 pub slice_bounds-copy-end-then-n-le-PART : goal.slice_bounds-copy-end-then-n-le-PART

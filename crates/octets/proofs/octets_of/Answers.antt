@@ -5,7 +5,7 @@ use Prim.Native.Nat.{suc, ◌-◌, ◌≤◌}
 use native.Mathlib.Omega.{arith}
 use lib.ListN.{length-set}
 use Rattle.octets.specs.Number.{octets}
-use Rattle.octets.specs.NumberLaws.{octets_off}
+use Rattle.octets.proofs.NumberLaws.{octets_off}
 use Rattle.octets.proofs.octets_of.Goals as goal
 
 pub loop-i-init : goal.loop-i-init

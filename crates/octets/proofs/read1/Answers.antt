@@ -1,7 +1,7 @@
 -- An octet within the slice is the number of one octet; past its end both are 0. Assumes nothing.
 use mathlib.Core.Path.{sym, ◌∙◌}
 use lib.ListN.{get_or-eq_default}
-use Rattle.octets.specs.NumberLaws.{number_one}
+use Rattle.octets.proofs.NumberLaws.{number_one}
 use Rattle.octets.proofs.read1.Goals as goal
 
 pub returns-then-at-s : goal.returns-then-at-s

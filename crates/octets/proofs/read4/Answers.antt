@@ -1,5 +1,5 @@
 -- A number is its two halves, read from the part that starts at its place. Assumes nothing.
-use Rattle.octets.specs.NumberLaws.{number_halves}
+use Rattle.octets.proofs.NumberLaws.{number_halves}
 use Rattle.octets.proofs.read4.Goals as goal
 
 pub returns : goal.returns

@@ -1,6 +1,6 @@
 -- The low octets of the number are laid down as a run. Assumes nothing.
 use mathlib.Core.Path.{◌∙◌}
-use Rattle.octets.specs.NumberLaws.{octets_low}
+use Rattle.octets.proofs.NumberLaws.{octets_low}
 use Rattle.octets.proofs.write.Goals as goal
 
 pub returns : goal.returns

@@ -1,6 +1,6 @@
 -- The two calls are a course, since each meets its contract at what the one before left. Assumes nothing.
 use borrow.Author.Rules.{rules}
-use Rattle.promises.specs.CourseLaws.{two_messages}
+use Rattle.promises.proofs.CourseLaws.{two_messages}
 use Rattle.promises.proofs.messages.Statement.{statement}
 use Rattle.promises.proofs.messages.Tie as tie
 

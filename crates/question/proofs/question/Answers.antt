@@ -5,10 +5,10 @@ use mathlib.Core.Bool.{true, false}
 use native.Mathlib.Omega.{arith}
 use borrow.Author.Count.{below_more}
 use Rattle.map.specs.Map.{holds}
-use Rattle.state.specs.LimitsLaws.{valid_count}
-use Rattle.state.specs.WithinLaws.{valid_sender}
+use Rattle.state.proofs.LimitsLaws.{valid_count}
+use Rattle.state.proofs.WithinLaws.{valid_sender}
 use Rattle.rules.specs.calls.Question.{pieces_of}
-use Rattle.rules.specs.calls.QuestionLaws.{Held, all_held, question_none, question_piece, question_nine}
+use Rattle.rules.proofs.calls.QuestionLaws.{Held, all_held, question_none, question_piece, question_nine}
 use Rattle.state.specs.State.{sender_at}
 use Rattle.question.proofs.question.Goals as goal
 

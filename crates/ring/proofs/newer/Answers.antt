@@ -1,7 +1,7 @@
 -- From a number to itself there is no way; of two, the code tests what the definition says. Assumes nothing.
 use mathlib.Core.Path.{sym}
 use Rattle.ring.specs.Ring.{newer}
-use Rattle.ring.specs.RingLaws.{remainder_same, newer_none}
+use Rattle.ring.proofs.RingLaws.{remainder_same, newer_none}
 use Rattle.ring.proofs.newer.Goals as goal
 
 pub returns-then-a-b : goal.returns-then-a-b

@@ -2,8 +2,8 @@
 use mathlib.Core.Path.{◌∙◌}
 use borrow.Author.Tests.{eq-eqb, ne_eqb}
 use Rattle.ring.specs.Check.{check}
-use Rattle.ring.specs.CheckLaws.{rule4_by_distance}
-use Rattle.ring.specs.RingLaws.{remainder_bound}
+use Rattle.ring.proofs.CheckLaws.{rule4_by_distance}
+use Rattle.ring.proofs.RingLaws.{remainder_bound}
 use Rattle.ring.proofs.number_check.Goals as goal
 
 pub returns-then-v-s : goal.returns-then-v-s

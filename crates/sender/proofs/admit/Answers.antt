@@ -1,6 +1,6 @@
 -- Refused by its number, or admitted. Assumes nothing.
 use mathlib.Core.Path.{sym, ◌∙◌}
-use Rattle.rules.specs.calls.AdmitLaws.{admitted_facts, admission_yes, admission_no}
+use Rattle.rules.proofs.calls.AdmitLaws.{admitted_facts, admission_yes, admission_no}
 use Rattle.sender.proofs.admit.Goals as goal
 
 pub returns-then-number-ne0 : goal.returns-then-number-ne0

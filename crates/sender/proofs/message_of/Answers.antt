@@ -1,6 +1,6 @@
 -- A possible cut keeps n and u within 16 bits. Assumes nothing.
 use native.Mathlib.Omega.{arith}
-use Rattle.cut.specs.PossibleLaws.{possible_facts, possible_unit}
+use Rattle.cut.proofs.PossibleLaws.{possible_facts, possible_unit}
 use Rattle.sender.proofs.message_of.Goals as goal
 
 pub overflow_cast-result : goal.overflow_cast-result

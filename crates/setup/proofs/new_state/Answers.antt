@@ -7,7 +7,7 @@ use borrow.Author.Rules.{rules}
 use lib.ListN.{length-set}
 use Rattle.octets.specs.Split.{mapped_length}
 use Rattle.rules.specs.calls.Setup.{new_senders}
-use Rattle.setup.specs.private.SettledLaws.{settled_few, seated_none, seated_all}
+use Rattle.setup.proofs.private.SettledLaws.{settled_few, seated_none, seated_all}
 use Rattle.setup.proofs.new_state.Goals as goal
 
 pub loop-i-init : goal.loop-i-init

@@ -1,7 +1,7 @@
 -- Refused with the empty state, or started. Assumes nothing.
 use mathlib.Core.Path.{sym, ◌∙◌}
 use Rattle.rules.specs.calls.Setup.{setup_answer}
-use Rattle.rules.specs.calls.SetupLaws.{setup_count}
+use Rattle.rules.proofs.calls.SetupLaws.{setup_count}
 use Rattle.setup.proofs.setup.Goals as goal
 
 pub new_state-state-requires : goal.new_state-state-requires

@@ -1,7 +1,7 @@
 -- The words where they stand. Assumes nothing.
 use mathlib.Core.Path.{sym, ◌∙◌}
 use native.Mathlib.Omega.{arith}
-use Rattle.words.specs.WordsLaws.{record_there, record_past, record_read}
+use Rattle.words.proofs.WordsLaws.{record_there, record_past, record_read}
 use Rattle.words.proofs.load.Goals as goal
 
 pub returns-then-words-at : goal.returns-then-words-at

@@ -2,9 +2,9 @@
 use mathlib.Core.Path.{sym}
 use native.Mathlib.Omega.{arith}
 use lib.ListN.{length-set}
-use Rattle.octets.specs.RunLaws.{laid_past}
+use Rattle.octets.proofs.RunLaws.{laid_past}
 use Rattle.words.specs.Words.{record_words}
-use Rattle.words.specs.WordsLaws.{put_laid}
+use Rattle.words.proofs.WordsLaws.{put_laid}
 use Rattle.words.proofs.put.Goals as goal
 
 pub bounds-words-at-then-at-words : goal.bounds-words-at-then-at-words

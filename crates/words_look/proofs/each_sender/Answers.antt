@@ -4,7 +4,7 @@ use mathlib.Core.Path.{◌≡◌, refl, sym}
 use mathlib.Core.Bool.{true}
 use native.Mathlib.Omega.{arith}
 use Rattle.words_look.specs.private.Tests.{each_to}
-use Rattle.words_look.specs.private.TestsLaws.{senders_not, senders_more}
+use Rattle.words_look.proofs.private.TestsLaws.{senders_not, senders_more}
 use Rattle.words_look.proofs.each_sender.Goals as goal
 
 pub loop-i-init : goal.loop-i-init

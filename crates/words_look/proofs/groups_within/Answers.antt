@@ -2,7 +2,7 @@
 use mathlib.Core.Path.{ap, ◌∙◌}
 use native.Mathlib.Omega.{arith}
 use Rattle.groups.specs.Groups.{groups_within}
-use Rattle.words_look.specs.private.TestsLaws.{groups_many, groups_few}
+use Rattle.words_look.proofs.private.TestsLaws.{groups_many, groups_few}
 use Rattle.words_look.proofs.groups_within.Goals as goal
 
 pub returns-then-at-gt8 : goal.returns-then-at-gt8

@@ -1,8 +1,8 @@
 -- Number 9, and the place where it does not apply. Assumes nothing.
 use Prim.Native.Nat.{ℕ, ◌%◌}
 use mathlib.Core.Path.{sym, ap, ◌∙◌}
-use Rattle.words_look.specs.LookLaws.{held_by, outside_nine, look_held}
-use Rattle.words_look.specs.HeldLaws.{count_octet}
+use Rattle.words_look.proofs.LookLaws.{held_by, outside_nine, look_held}
+use Rattle.words_look.proofs.HeldLaws.{count_octet}
 use Rattle.words_look.proofs.look.Goals as goal
 
 pub returns-then-not-within : goal.returns-then-not-within

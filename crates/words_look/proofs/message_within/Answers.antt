@@ -3,7 +3,7 @@ use mathlib.Core.Path.{sym}
 use borrow.Author.Tests.{le-leb, lt-leb}
 use Rattle.words.specs.Words.{record_in}
 use Prim.Native.Nat.{◌%◌}
-use Rattle.words_look.specs.private.TestsLaws.{message_tests}
+use Rattle.words_look.proofs.private.TestsLaws.{message_tests}
 use Rattle.words_look.proofs.message_within.Goals as goal
 
 pub returns-then-clock-at : goal.returns-then-clock-at

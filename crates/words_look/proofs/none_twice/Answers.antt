@@ -3,7 +3,7 @@ use Prim.Native.Nat.{ℕ, ◌-◌, ◌%◌}
 use mathlib.Core.Path.{◌≡◌, sym, ap, ◌∙◌}
 use native.Mathlib.Omega.{arith}
 use Rattle.words.specs.Words.{half, word}
-use Rattle.words_look.specs.private.TestsLaws.{apart_none, apart_not, apart_more}
+use Rattle.words_look.proofs.private.TestsLaws.{apart_none, apart_not, apart_more}
 use Rattle.words_look.proofs.none_twice.Goals as goal
 
 pub loop-i-init : goal.loop-i-init

@@ -1,7 +1,7 @@
 -- After i turns the addresses of the first i senders have been seen, and are new. Assumes nothing.
 use Prim.Native.Nat.{◌-◌, ◌%◌}
 use mathlib.Core.Path.{◌≡◌, ◌∙◌}
-use Rattle.words_look.specs.private.TestsLaws.{Apart}
+use Rattle.words_look.proofs.private.TestsLaws.{Apart}
 use Rattle.words_look.proofs.none_twice.Given as goal
 
 abbrev pub invariant-loop-i : goal.invariant-loop-i

@@ -5,10 +5,10 @@ use native.Mathlib.Omega.{arith}
 use borrow.Author.Tests.{eq-eqb, ne_eqb}
 use Rattle.state.specs.declared.Address.{Address}
 use Rattle.words.specs.Words.{place, word, address_word}
-use Rattle.words.specs.WordsLaws.{address_back}
+use Rattle.words.proofs.WordsLaws.{address_back}
 use Rattle.words_look.specs.Look.{place_in}
-use Rattle.words_look.specs.AddressLaws.{address_same}
-use Rattle.words_look.specs.LookLaws.{place_here, place_none}
+use Rattle.words_look.proofs.AddressLaws.{address_same}
+use Rattle.words_look.proofs.LookLaws.{place_here, place_none}
 use Rattle.words_look.proofs.place_of.Goals as goal
 
 pub loop-i-init : goal.loop-i-init

@@ -1,7 +1,7 @@
 -- The tests in the order in which they are made. Assumes nothing.
 use mathlib.Core.Path.{sym}
 use Rattle.words.specs.Words.{record_in}
-use Rattle.words_look.specs.private.TestsLaws.{record_tests}
+use Rattle.words_look.proofs.private.TestsLaws.{record_tests}
 use Rattle.words_look.proofs.sender_within.Goals as goal
 
 pub returns-then-not-alive_within : goal.returns-then-not-alive_within

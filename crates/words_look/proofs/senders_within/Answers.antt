@@ -1,6 +1,6 @@
 -- The tests in the order in which they are made. Assumes nothing.
 use mathlib.Core.Path.{sym, ◌∙◌}
-use Rattle.words_look.specs.private.TestsLaws.{none_few}
+use Rattle.words_look.proofs.private.TestsLaws.{none_few}
 use Rattle.words_look.proofs.senders_within.Goals as goal
 
 pub returns-then-not-each_sender : goal.returns-then-not-each_sender

@@ -1,7 +1,7 @@
 -- Of the states without senders only the empty one passes. Assumes nothing.
 use mathlib.Core.Path.{sym}
 use borrow.Author.Tests.{lt-ltb, le-ltb}
-use Rattle.words_look.specs.private.TestsLaws.{settings_tests}
+use Rattle.words_look.proofs.private.TestsLaws.{settings_tests}
 use Rattle.words_look.proofs.settings_within.Goals as goal
 
 pub returns-then-not-each_setting : goal.returns-then-not-each_setting

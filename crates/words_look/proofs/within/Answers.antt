@@ -1,9 +1,9 @@
 -- The tests in the order in which they are made. Assumes nothing.
 use Prim.Native.Nat.{ℕ, ◌%◌}
 use mathlib.Core.Path.{sym, ap, ◌∙◌}
-use Rattle.words.specs.StateLaws.{state_facts}
-use Rattle.words_look.specs.LookLaws.{nine_unless}
-use Rattle.words_look.specs.private.TestsLaws.{whole_test, sized, senders_tests}
+use Rattle.words.proofs.StateLaws.{state_facts}
+use Rattle.words_look.proofs.LookLaws.{nine_unless}
+use Rattle.words_look.proofs.private.TestsLaws.{whole_test, sized, senders_tests}
 use Rattle.words_look.proofs.within.Goals as goal
 
 pub returns-then-words-ne-WORDS : goal.returns-then-words-ne-WORDS

@@ -1,7 +1,7 @@
 -- Each field is that of the definition, and fits. Assumes nothing.
 use native.Mathlib.Omega.{arith}
-use Rattle.cut.specs.PiecesLaws.{length_counted}
-use Rattle.cut.specs.CutterLaws.{within_facts, within_short, within_count}
+use Rattle.cut.proofs.PiecesLaws.{length_counted}
+use Rattle.cut.proofs.CutterLaws.{within_facts, within_short, within_count}
 use Rattle.cut.proofs.cutter.cut_for.Goals as goal
 
 pub overflow_add-result : goal.overflow_add-result

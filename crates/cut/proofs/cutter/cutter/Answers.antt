@@ -2,7 +2,7 @@
 use mathlib.Core.Path.{sym, ap, ◌∙◌}
 use native.Mathlib.Omega.{arith}
 use Rattle.cut.specs.declared.cutter.Cutting.TheVariants.{Written}
-use Rattle.cut.specs.CutterLaws.{counted_none, counted_some, bsize_is, refused_piece, refused_given, refused_short, cuts_tested, cutter_refused, cutter_written}
+use Rattle.cut.proofs.CutterLaws.{counted_none, counted_some, bsize_is, refused_piece, refused_given, refused_short, cuts_tested, cutter_refused, cutter_written}
 use Rattle.cut.proofs.cutter.cutter.Goals as goal
 
 pub returns-then-t-eq0 : goal.returns-then-t-eq0

@@ -1,8 +1,8 @@
 -- The header is written, and the piece laid down behind it. Assumes nothing.
 use mathlib.Core.Path.{◌∙◌}
 use native.Mathlib.Omega.{arith}
-use Rattle.cut.specs.CutterLaws.{within_end, bsize_is, pdu_written}
-use Rattle.cut.specs.ReadLaws.{cuts_within, cuts_room}
+use Rattle.cut.proofs.CutterLaws.{within_end, bsize_is, pdu_written}
+use Rattle.cut.proofs.ReadLaws.{cuts_within, cuts_room}
 use Rattle.cut.proofs.cutter.write_pdu.Goals as goal
 
 pub overflow_sub-own : goal.overflow_sub-own

@@ -1,5 +1,5 @@
 -- The pieces are counted, and the length is found by their number. Assumes nothing.
-use Rattle.cut.specs.PiecesLaws.{length_counted}
+use Rattle.cut.proofs.PiecesLaws.{length_counted}
 use Rattle.cut.proofs.pieces.piece_length.Goals as goal
 
 pub returns : goal.returns

@@ -1,7 +1,7 @@
 -- Piece c starts behind c - 1 pieces. Assumes nothing.
 use mathlib.Core.Path.{◌≡◌, sym}
 use native.Mathlib.Nat.{zero-mul}
-use Rattle.cut.specs.PiecesLaws.{product_below}
+use Rattle.cut.proofs.PiecesLaws.{product_below}
 use native.Mathlib.Omega.{arith}
 use Rattle.cut.proofs.pieces.piece_place.Goals as goal
 

@@ -4,9 +4,9 @@ use mathlib.Core.Bool.{and-false}
 use native.Mathlib.Omega.{arith}
 use borrow.Author.Tests.{lt-ltb, le-ltb}
 use Rattle.cut.specs.Pieces.{most_unit}
-use Rattle.cut.specs.PiecesLaws.{product_below}
+use Rattle.cut.proofs.PiecesLaws.{product_below}
 use Rattle.cut.specs.Possible.{front_possible}
-use Rattle.cut.specs.PossibleLaws.{unit_within, ends_within}
+use Rattle.cut.proofs.PossibleLaws.{unit_within, ends_within}
 use Rattle.cut.proofs.possible.front_possible.Goals as goal
 
 pub returns-then-not-is_unit : goal.returns-then-not-is_unit

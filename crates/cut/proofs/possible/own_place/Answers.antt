@@ -2,7 +2,7 @@
 use mathlib.Core.Path.{◌≡◌, sym, ap, ◌∙◌}
 use Prim.Native.Nat.{ℕ, ◌-◌, ◌*◌}
 use native.Mathlib.Nat.{zero-mul}
-use Rattle.cut.specs.PiecesLaws.{product_below}
+use Rattle.cut.proofs.PiecesLaws.{product_below}
 use native.Mathlib.Omega.{arith}
 use Rattle.cut.specs.Possible.{unit}
 use Rattle.cut.proofs.possible.own_place.Goals as goal

@@ -4,7 +4,7 @@ use mathlib.Core.Bool.{and-false}
 use native.Mathlib.Omega.{arith}
 use borrow.Author.Tests.{le-leb, lt-leb}
 use Rattle.cut.specs.Possible.{possible}
-use Rattle.cut.specs.PossibleLaws.{sizes_facts, judged_by_unit}
+use Rattle.cut.proofs.PossibleLaws.{sizes_facts, judged_by_unit}
 use Rattle.cut.proofs.possible.possible.Goals as goal
 
 pub returns-then-not-sizes_within : goal.returns-then-not-sizes_within

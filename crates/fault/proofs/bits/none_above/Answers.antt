@@ -3,9 +3,9 @@ use Prim.Native.Nat.{◌-◌, ◌%◌, ◌≤◌}
 use mathlib.Core.Path.{◌≡◌, sym, ap, ◌∙◌}
 use native.Mathlib.Omega.{arith}
 use borrow.Author.Tests.{eq-eqb, ne_eqb}
-use Rattle.octets.specs.NumberLaws.{octets_bytes}
+use Rattle.octets.proofs.NumberLaws.{octets_bytes}
 use Rattle.fault.specs.Bits.{none_above}
-use Rattle.fault.specs.BitsLaws.{none_from, none_step, none_end}
+use Rattle.fault.proofs.BitsLaws.{none_from, none_step, none_end}
 use Rattle.fault.proofs.bits.none_above.Goals as goal
 
 pub loop-i-init : goal.loop-i-init

@@ -3,8 +3,8 @@ use Prim.Native.Nat.{◌+◌, ◌*◌, ◌≤◌}
 use mathlib.Core.Path.{◌≡◌, refl, sym, ◌∙◌}
 use native.Mathlib.Omega.{arith}
 use lib.ListN.{drop}
-use Rattle.octets.specs.NumberLaws.{Octets}
-use Rattle.fault.specs.ErrorsLaws.{errors_none, errors_some, errors_end}
+use Rattle.octets.specs.Number.{Octets}
+use Rattle.fault.proofs.ErrorsLaws.{errors_none, errors_some, errors_end}
 use Rattle.fault.proofs.reading.are_errors.Goals as goal
 
 pub loop-left-init : goal.loop-left-init

@@ -1,7 +1,7 @@
 -- Each test is that of the definition. Assumes nothing.
 use native.Mathlib.Omega.{arith}
 use borrow.Author.Tests.{le-leb, lt-leb}
-use Rattle.fault.specs.PlacesLaws.{list_from, list_ends, bits_judged, errors_judged}
+use Rattle.fault.proofs.PlacesLaws.{list_from, list_ends, bits_judged, errors_judged}
 use Rattle.fault.proofs.reading.holds_rules.Goals as goal
 
 pub returns-then-s-gt-MOST : goal.returns-then-s-gt-MOST

@@ -3,7 +3,7 @@ use Prim.Native.Nat.{◌+◌, ◌-◌, ◌%◌}
 use mathlib.Core.Path.{◌≡◌, ◌∙◌}
 use native.Mathlib.Omega.{arith}
 use borrow.Author.Tests.{le-leb, lt-leb}
-use Rattle.octets.specs.NumberLaws.{number_one}
+use Rattle.octets.proofs.NumberLaws.{number_one}
 use Rattle.fault.specs.Reading.{dead_at}
 use Rattle.fault.proofs.reading.is_dead.Goals as goal
 

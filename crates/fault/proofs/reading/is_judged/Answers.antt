@@ -2,10 +2,10 @@
 use mathlib.Core.Path.{sym, ◌∙◌}
 use native.Mathlib.Omega.{arith}
 use borrow.Author.Tests.{eq-eqb, ne_eqb}
-use Rattle.octets.specs.NumberLaws.{Octets}
-use Rattle.fault.specs.ReadingLaws.{section_by}
+use Rattle.octets.specs.Number.{Octets}
+use Rattle.fault.proofs.ReadingLaws.{section_by}
 use Rattle.fault.specs.private.Judged.{judged}
-use Rattle.fault.specs.PlacesLaws.{rest_few, options_few, ends_judged}
+use Rattle.fault.proofs.PlacesLaws.{rest_few, options_few, ends_judged}
 use Rattle.fault.proofs.reading.is_judged.Goals as goal
 
 pub overflow_add-p : goal.overflow_add-p

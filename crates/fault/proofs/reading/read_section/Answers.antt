@@ -2,9 +2,9 @@
 use mathlib.Core.Path.{sym, ◌∙◌}
 use native.Mathlib.Omega.{arith}
 use Rattle.fault.specs.Reading.{report_of, reading_of}
-use Rattle.fault.specs.ReadingLaws.{name_whole}
+use Rattle.fault.proofs.ReadingLaws.{name_whole}
 use Rattle.fault.specs.Places.{places_of}
-use Rattle.fault.specs.PlacesLaws.{list_from, list_name}
+use Rattle.fault.proofs.PlacesLaws.{list_from, list_name}
 use Rattle.fault.proofs.reading.read_section.Goals as goal
 
 pub is_judged-requires : goal.is_judged-requires

@@ -4,7 +4,7 @@ use mathlib.Core.Path.{◌≡◌, refl, sym, ◌∙◌}
 use native.Mathlib.Omega.{arith}
 use lib.ListN.{get_or}
 use borrow.Author.Tests.{le-leb}
-use Rattle.fault.specs.WritingLaws.{given_step, given_end}
+use Rattle.fault.proofs.WritingLaws.{given_step, given_end}
 use Rattle.fault.proofs.writing.are_errors.Goals as goal
 
 pub loop-i-init : goal.loop-i-init

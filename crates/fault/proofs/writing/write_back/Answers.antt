@@ -1,6 +1,6 @@
 -- Three runs, one behind the other. Assumes nothing.
 use mathlib.Core.Path.{◌∙◌}
-use Rattle.fault.specs.WritingLaws.{back_laid}
+use Rattle.fault.proofs.WritingLaws.{back_laid}
 use Rattle.fault.proofs.writing.write_back.Goals as goal
 
 pub returns : goal.returns

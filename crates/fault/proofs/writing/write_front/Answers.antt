@@ -1,7 +1,7 @@
 -- Four runs, one behind the other. Assumes nothing.
 use mathlib.Core.Path.{◌≡◌, ◌∙◌}
 use lib.ListN.{length}
-use Rattle.fault.specs.WritingLaws.{front_laid}
+use Rattle.fault.proofs.WritingLaws.{front_laid}
 use borrow.Author.Rules.{rules}
 use Rattle.fault.proofs.writing.write_front.Goals as goal
 

@@ -4,7 +4,7 @@ use mathlib.Core.Path.{◌≡◌, refl, ◌∙◌}
 use native.Mathlib.Omega.{arith}
 use lib.ListN.{length, get_or, length-set}
 use lib.Seq.{take-length}
-use Rattle.fault.specs.WritingLaws.{pairs_none, pairs_next, two_octets}
+use Rattle.fault.proofs.WritingLaws.{pairs_none, pairs_next, two_octets}
 use Rattle.fault.proofs.writing.write_numbers.Goals as goal
 
 pub loop-i-init : goal.loop-i-init

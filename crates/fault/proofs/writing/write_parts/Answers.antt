@@ -2,8 +2,8 @@
 use mathlib.Core.Path.{◌≡◌, ◌∙◌}
 use native.Mathlib.Omega.{arith}
 use lib.ListN.{length}
-use Rattle.octets.specs.NumberLaws.{octets_bytes}
-use Rattle.fault.specs.WritingLaws.{keeps_facts, given_laid}
+use Rattle.octets.proofs.NumberLaws.{octets_bytes}
+use Rattle.fault.proofs.WritingLaws.{keeps_facts, given_laid}
 use borrow.Author.Rules.{rules}
 use Rattle.fault.proofs.writing.write_parts.Goals as goal
 

@@ -1,6 +1,6 @@
 -- 23, then 24, and what is written if neither applies. Assumes nothing.
 use native.Mathlib.Omega.{arith}
-use Rattle.fault.specs.WritingLaws.{short_is, size_fits, broken_is, keeps_given, room_given, size_few, written_is}
+use Rattle.fault.proofs.WritingLaws.{short_is, size_fits, broken_is, keeps_given, room_given, size_few, written_is}
 use Rattle.fault.proofs.writing.write_section.Goals as goal
 
 pub returns-then-is_short : goal.returns-then-is_short

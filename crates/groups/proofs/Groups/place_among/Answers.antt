@@ -6,7 +6,7 @@ use native.Mathlib.Omega.{arith}
 use lib.Dec.{eqb}
 use borrow.Author.Tests.{eq-eqb, ne_eqb}
 use Rattle.octets.specs.FirstPlace.{first_place}
-use Rattle.octets.specs.FirstPlaceLaws.{place_here, place_none}
+use Rattle.octets.proofs.FirstPlaceLaws.{place_here, place_none}
 use Rattle.groups.specs.declared.Group.{Group}
 use Rattle.groups.specs.Groups.{number_at}
 use Rattle.groups.proofs.Groups.place_among.Goals as goal

@@ -6,7 +6,7 @@ use lib.Dec.{eqb}
 use borrow.Author.Tests.{lt-leb, le-leb}
 use Rattle.groups.specs.declared.Group.{Group}
 use Rattle.groups.specs.Groups.{groups_most, is_group, number_at, place_among, each_group, groups_within}
-use Rattle.groups.specs.GroupsLaws.{each_more}
+use Rattle.groups.proofs.GroupsLaws.{each_more}
 use Rattle.groups.proofs.Groups.within.Goals as goal
 
 pub returns-then-count-gt-PLACES : goal.returns-then-count-gt-PLACES

@@ -1,6 +1,6 @@
 -- One pass over the table, two judges, and what an admitted PDU does. Assumes nothing.
 use native.Mathlib.Omega.{arith}
-use Rattle.rules.specs.calls.MessageLaws.{pass_refused, pass_place, pass_late, pass_taken}
+use Rattle.rules.proofs.calls.MessageLaws.{pass_refused, pass_place, pass_late, pass_taken}
 use Rattle.rules.specs.calls.Message.{refused, with_sender}
 use Rattle.receiver.proofs.message.message.Goals as goal
 

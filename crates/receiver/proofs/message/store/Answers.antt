@@ -2,7 +2,7 @@
 use mathlib.Core.Path.{◌∙◌}
 use native.Mathlib.Omega.{arith}
 use borrow.Author.Tests.{eq-eqb, ne_eqb}
-use Rattle.cut.specs.PossibleLaws.{place_most}
+use Rattle.cut.proofs.PossibleLaws.{place_most}
 use Rattle.rules.specs.calls.Message.{storage_after}
 use Rattle.receiver.proofs.message.store.Goals as goal
 

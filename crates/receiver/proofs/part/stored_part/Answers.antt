@@ -7,7 +7,7 @@ use native.Mathlib.Omega.{arith}
 use lib.ListN.{length, take, drop, length-take, length-drop}
 use borrow.Author.Tests.{le-leb, lt-leb}
 use Rattle.octets.specs.Run.{run}
-use Rattle.octets.specs.RunLaws.{length_run}
+use Rattle.octets.proofs.RunLaws.{length_run}
 use Rattle.octets.specs.Split.{lt_or_le}
 use Rattle.rules.specs.calls.Part.{stored_part}
 use Rattle.receiver.proofs.part.stored_part.Goals as goal

@@ -7,8 +7,8 @@ use lib.ListN.{length, length-set}
 use Rattle.octets.specs.Split.{mapped_length}
 use Rattle.state.specs.Limits.{addresses_within}
 use Rattle.state.specs.State.{senders_most}
-use Rattle.state.specs.LimitsLaws.{addresses_more, addresses_few}
-use Rattle.state.specs.KeyLaws.{seen_none, seen_more, new_seen}
+use Rattle.state.proofs.LimitsLaws.{addresses_more, addresses_few}
+use Rattle.state.proofs.KeyLaws.{seen_none, seen_more, new_seen}
 use Rattle.state.proofs.Address.all_within.Goals as goal
 
 pub returns-then-count-gt-PLACES : goal.returns-then-count-gt-PLACES

@@ -4,7 +4,7 @@ use mathlib.Core.Path.{◌≡◌, ◌∙◌}
 use lib.ListN.{length}
 use Rattle.state.specs.Limits.{given, addresses_within}
 use Rattle.state.specs.State.{senders_most}
-use Rattle.state.specs.KeyLaws.{Seen}
+use Rattle.state.proofs.KeyLaws.{Seen}
 use Rattle.state.proofs.Address.all_within.Given as goal
 
 abbrev pub invariant-loop-i : goal.invariant-loop-i

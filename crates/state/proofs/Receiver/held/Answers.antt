@@ -4,7 +4,7 @@ use native.Mathlib.Omega.{arith}
 use lib.ListN.{length}
 use borrow.Author.Rules.{rules}
 use Rattle.octets.specs.Split.{mapped_length}
-use Rattle.state.specs.HeldLaws.{held_open, held_shut, held_past, held_beyond}
+use Rattle.state.proofs.HeldLaws.{held_open, held_shut, held_past, held_beyond}
 use Rattle.state.specs.State.{senders_most}
 use Rattle.state.proofs.Receiver.held.Goals as goal
 

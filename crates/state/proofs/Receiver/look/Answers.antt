@@ -6,9 +6,9 @@ use native.Mathlib.Omega.{arith}
 use borrow.Author.Rules.{rules}
 use lib.ListN.{length-set}
 use Rattle.state.specs.Limits.{senders_within, address_at}
-use Rattle.state.specs.LimitsLaws.{within_address, senders_more, valid_few}
-use Rattle.state.specs.KeyLaws.{seen_none, seen_more, new_seen}
-use Rattle.state.specs.TableLaws.{find_more, look_outside, passed_outside, passed_within}
+use Rattle.state.proofs.LimitsLaws.{within_address, senders_more, valid_few}
+use Rattle.state.proofs.KeyLaws.{seen_none, seen_more, new_seen}
+use Rattle.state.proofs.TableLaws.{find_more, look_outside, passed_outside, passed_within}
 use Rattle.state.specs.State.{first_where}
 use Rattle.state.proofs.Receiver.look.Goals as goal
 

@@ -4,7 +4,7 @@ use mathlib.Core.Path.{◌≡◌, ◌∙◌}
 use mathlib.Core.Bool.{◌&&◌}
 use lib.ListN.{length}
 use Rattle.state.specs.Limits.{senders_within, address_at}
-use Rattle.state.specs.KeyLaws.{Seen}
+use Rattle.state.proofs.KeyLaws.{Seen}
 use Rattle.state.specs.Table.{find}
 use Rattle.state.specs.State.{senders_most}
 use Rattle.state.proofs.Receiver.look.Given as goal

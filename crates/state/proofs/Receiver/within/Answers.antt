@@ -1,5 +1,5 @@
 -- The pass judges the state. Assumes nothing.
-use Rattle.state.specs.TableLaws.{look_valid}
+use Rattle.state.proofs.TableLaws.{look_valid}
 use Rattle.state.proofs.Receiver.within.Goals as goal
 
 pub returns : goal.returns

@@ -1,0 +1,4 @@
+pub mod PartLaws
+pub mod SetupLaws
+pub mod TalliedLaws
+pub mod ToldLaws

@@ -1,0 +1,2 @@
+pub mod TickedLaws
+pub mod private

@@ -1,0 +1,5 @@
+pub mod CutterLaws
+pub mod PiecesLaws
+pub mod PossibleLaws
+pub mod PrintedLaws
+pub mod ReadLaws

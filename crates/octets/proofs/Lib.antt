@@ -1,0 +1,3 @@
+pub mod FirstPlaceLaws
+pub mod NumberLaws
+pub mod RunLaws

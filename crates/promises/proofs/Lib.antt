@@ -1,0 +1,9 @@
+pub mod AsPrintedLaws
+pub mod BoardLaws
+pub mod ComesBackLaws
+pub mod CountedLaws
+pub mod CourseLaws
+pub mod DemandsLaws
+pub mod FaultLaws
+pub mod GroupLaws
+pub mod Kept

@@ -1,0 +1,2 @@
+pub mod pasts
+pub mod calls

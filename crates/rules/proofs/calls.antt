@@ -1,0 +1,15 @@
+pub mod AdmitLaws
+pub mod AdmitValidLaws
+pub mod AlikeLaws
+pub mod AliveLaws
+pub mod ChangesLaws
+pub mod ClockLaws
+pub mod ExactlyLaws
+pub mod FirstLaws
+pub mod MessageLaws
+pub mod MulticastLaws
+pub mod QuestionLaws
+pub mod SeenLaws
+pub mod SetupLaws
+pub mod ValidLaws
+pub mod ZeroedLaws

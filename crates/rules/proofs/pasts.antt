@@ -1,0 +1,3 @@
+pub mod ListingsLaws
+pub mod PastLaws
+pub mod listed

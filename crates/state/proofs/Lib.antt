@@ -1,0 +1,5 @@
+pub mod HeldLaws
+pub mod KeyLaws
+pub mod LimitsLaws
+pub mod TableLaws
+pub mod WithinLaws

@@ -1,0 +1,44 @@
+-- What a message call leaves in the tally. Assumes nothing.
+use Rattle.std.specs.Prelude.{◌≡◌, refl, List, ℕ, ◌+◌, ◌≤◌, length}
+use Rattle.std.proofs.Math.Path.{ap}
+use Rattle.std.proofs.Common.{arith}
+use Rattle.std.proofs.lemmas.Bool.{lt-leb}
+use Rattle.state.specs.declared.Receiver.{Receiver}
+use Rattle.answers.specs.declared.Answer.{Answer}
+use Rattle.answers.specs.declared.Outcome.{Outcome}
+use Rattle.answers.specs.declared.Outcome.TheVariants.{Refused, Stored, Delivered}
+use Rattle.answers.specs.Told.{RefusedAs, outcome_told, message_told, OutcomeTells}
+use Rattle.rules.proofs.calls.ExactlyLaws.{message_refuses, message_given, message_tells}
+use Rattle.rules.specs.calls.Message.{refused, message_answer, message_storage}
+use Rattle.tally.specs.declared.Tally.{Tally}
+use Rattle.tally.specs.Tally.{most, stopping, counted, SaveACount, counted_by}
+
+-- ---- one call
+
+module _ (t : Tally) (w : Receiver) (storage packet : List ℕ) where
+  abbrev answer : Answer
+  answer = message_answer w (length storage) packet
+
+  pub save_a_count : (k : ℕ) → RefusedAs (message_told (message_answer w (length storage) packet)).outcome.number k → SaveACount t w storage packet
+  unfolding refused
+  save_a_count k e =
+      let r = message_refuses w storage packet k (message_given w storage packet k e) in
+      record { same_state = ap (λ (a : Answer). a.state) r.0; same_storage = r.1; one_refusal_lem = ap (λ (a : Answer). counted t a.outcome) r.0 }
+
+  -- "one count of answers 0 and 1, one of refusals": which count grows is told by 01's number alone.
+  pub by_number : counted t (message_answer w (length storage) packet).outcome
+      ≡ counted_by t (message_told (message_answer w (length storage) packet)).outcome.number
+  by_number = by answer.outcome (message_tells w storage packet)
+    where
+      by : (o : Outcome) → OutcomeTells o → counted t o ≡ counted_by t (outcome_told o).number
+      by (Refused k age) more = rw (lt-leb k 1 (omega (arith, more)))
+      by Stored _ = refl
+      by (Delivered v) _ = refl
+
+-- ---- a count
+
+pub never_falls : (k : ℕ) → k ≤ most → k ≤ stopping (k + 1)
+never_falls k h = omega (arith, h)
+
+pub never_passes : (k : ℕ) → stopping k ≤ most
+never_passes k = omega arith

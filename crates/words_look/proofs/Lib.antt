@@ -1,0 +1,4 @@
+pub mod AddressLaws
+pub mod HeldLaws
+pub mod LookLaws
+pub mod private
