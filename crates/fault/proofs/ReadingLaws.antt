@@ -1,14 +1,15 @@
 -- What is read from a section's octets is what the section says. Assumes nothing.
-use Rattle.std.specs.Prelude.{ℕ, ◌+◌, ◌-◌, ◌*◌, ◌/◌, ◌%◌, ◌≤◌, ◌<◌, ◌≡◌, refl, true, false, List, eqb, length, drop, get_or, replicate}
+use Rattle.std.specs.Prelude.{ℕ, ◌+◌, ◌-◌, ◌*◌, ◌/◌, ◌%◌, ◌≤◌, ◌<◌, ◌≡◌, refl, true, false, ◌&&◌, List, eqb, length, drop, get_or, replicate}
 use Rattle.std.proofs.Common.{sym, ap, ◌∙◌, ⊎_elim, arith, length-take, get_or-take, le-leb, lt-ltb, le-ltb}
 use Rattle.std.proofs.Math.Logic.{ite}
 use Rattle.std.proofs.Math.ListN.{get_or-eq_default}
 use Rattle.std.proofs.lemmas.Bool.{lt-leb}
 use Rattle.octets.specs.Number.{octet, Octets}
-use Rattle.octets.proofs.NumberLaws.{number_drop}
+use Rattle.std.proofs.Math.Pow.{are_bytes}
+use Rattle.octets.proofs.NumberLaws.{number_drop, bytes_octets}
 use Rattle.octets.specs.Run.{run, laid}
 use Rattle.octets.proofs.RunLaws.{octet_run, laid_all}
-use Rattle.octets.specs.Split.{lt_or_le, same_test, never_both}
+use Rattle.octets.specs.Split.{lt_or_le, same_test, never_both, both, and_left, and_right}
 use Rattle.map.specs.Map.{bit}
 use Rattle.fault.specs.Section.{Section, is_dead, bits_size, octets_of, SectionOf}
 use Rattle.fault.specs.Bits.{unpacked, dead_in}
