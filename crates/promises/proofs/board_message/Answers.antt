@@ -3,4 +3,4 @@ use Rattle.promises.proofs.board_message.Goals as goal
 
 pub returns : goal.returns
 returns c =
-    let m = c.adp_message.ensures in record { answer = m.answer; left = m.left.0; stored = m.left.1; meets = (m.answer, m.left.0, m.left.1) }
+    let m = c.adp_message.ensures in record { answer = m.answer; left = m.left; stored = m.stored; meets = (m.answer, m.left, m.stored) }

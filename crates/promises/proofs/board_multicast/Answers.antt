@@ -7,7 +7,7 @@ pub returns : goal.returns
 returns c =
     let m = c.adp_multicast.ensures in record {
       answer = m.answer;
-      versions = m.versions.0;
-      numbers = m.versions.1;
-      meets = λ storage. ((m.answer, ap₂ tables m.versions.0 m.versions.1), refl, refl);
+      versions = m.versions;
+      numbers = m.numbers;
+      meets = λ storage. ((m.answer, ap₂ tables m.versions m.numbers), refl, refl);
     }

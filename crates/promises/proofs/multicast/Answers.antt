@@ -7,7 +7,7 @@ pub returns : goal.returns
 returns c =
     let m = c.multicast.ensures in record {
       answer = m.answer;
-      versions = m.versions.0;
-      numbers = m.versions.1;
-      meets = λ storage. record { answered = m.answer; kept = ap₂ tables m.versions.0 m.versions.1; stays = refl };
+      versions = m.versions;
+      numbers = m.numbers;
+      meets = λ storage. record { answered = m.answer; kept = ap₂ tables m.versions m.numbers; stays = refl };
     }
