@@ -5,5 +5,5 @@ use Rattle.edges.proofs.run.Goals as goal
 pub loop-turns-preserved : goal.loop-turns-preserved
 loop-turns-preserved c =
     let loop = c.loop-turns in
-    let same = c.read_field-read.auto.0 in
-    (c.call-w.auto.1.0 ∙ loop.invariant.0, same ∙ loop.invariant.1, same ∙ loop.invariant.2)
+    let same = c.read_field-read.auto.field in
+    (c.call-w.auto.storage ∙ loop.invariant.0, same ∙ loop.invariant.1, same ∙ loop.invariant.2)
