@@ -31,17 +31,17 @@ pub slice_bounds-next_turn-end : goal.slice_bounds-next_turn-end
 slice_bounds-next_turn-end c = sym (length-take-le _ _ (omega (arith, c.lent-room.ensures, c.loop-turns.invariant.0)))
 
 pub slice_bounds-next_turn-end-in-loop-turns : goal.slice_bounds-next_turn-end-in-loop-turns
-slice_bounds-next_turn-end-in-loop-turns c = sym (length-take-le _ _ (omega (arith, c.read_field-read.ensures, c.read_field-read.auto.0, c.loop-turns.invariant.1)))
+slice_bounds-next_turn-end-in-loop-turns c = sym (length-take-le _ _ (omega (arith, c.read_field-read.ensures, c.read_field-read.auto.field, c.loop-turns.invariant.1)))
 
 pub loop-turns-preserved : goal.loop-turns-preserved
 loop-turns-preserved c =
     let room = c.lent-room in
     let read = c.read_field-read in
     let before = c.loop-turns in
-    let left = c.next_turn-s.new.storage.0 in
+    let left = c.next_turn-s.new.storage in
     let on = not-false c.next_turn-s.result.on c.if-not-s.false in (
-      length_front before.storage left room.result c.next_turn-s.auto.1.0 ∙ before.invariant.0,
-      read.auto.0 ∙ before.invariant.1,
+      length_front before.storage left room.result c.next_turn-s.auto.storage ∙ before.invariant.0,
+      read.auto.field ∙ before.invariant.1,
       omega arith,
       subst (λ (n : ℕ). OfRun (replicate 65536 0) n (record { state = c.next_turn-s.result.state; room = left ++ drop room.result before.storage }))
           (one_turn 18446744073709551615 before.turns c.loop-turns-test.true before.invariant.2)
