@@ -1,6 +1,6 @@
 -- A night: a receiver is set up and given packets, one behind the other. What it does to state and storage is `after`
 -- of `rules`.
-use Rattle.std.specs.Prelude.{ℕ, zero, suc, ◌+◌, ◌*◌, ◌%◌, ◌^◌, List, [], ◌∷◌, length, take, drop, set, replicate, slice_set}
+use Rattle.std.specs.Prelude.{ℕ, zero, suc, ◌+◌, ◌*◌, ◌%◌, ◌^◌, List, [], ◌∷◌, length, take, drop, replicate, slice_set}
 use Rattle.groups.specs.Groups.{no_groups}
 use Rattle.state.specs.declared.Address.{Address}
 use Rattle.state.specs.State.{senders_most, no_address}

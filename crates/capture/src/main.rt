@@ -13,6 +13,7 @@ use state::Receiver;
 
 // The numbers of standard input and standard output.
 const STDIN: i32 = 0;
+
 const STDOUT: i32 = 1;
 
 // A setup of the program has at most four senders.

@@ -7,9 +7,8 @@ use Rattle.fault.specs.declared.places.Places.{Places}
 use Rattle.octets.specs.Run.{run}
 use Rattle.fault.specs.Section.{bits_size, are_errors}
 use Rattle.fault.specs.Bits.{none_above}
-use Rattle.fault.specs.Places.{modules_in, errors_in, list_at, count_at, errors_from}
+use Rattle.fault.specs.Places.{modules_in, errors_in, list_at, count_at, errors_from, places_of}
 use Rattle.fault.specs.private.Judged.{ends_right}
-use Rattle.fault.specs.Places.{places_of}
 
 module _ (s : List ℕ) (o : Octets s) (p : Places) (e : p ≡ places_of s) where
   pub rest_few : p.rest < 2 ^ 40

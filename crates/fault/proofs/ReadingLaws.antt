@@ -1,5 +1,5 @@
 -- What is read from a section's octets is what the section says. Assumes nothing.
-use Rattle.std.specs.Prelude.{ℕ, ◌+◌, ◌-◌, ◌*◌, ◌/◌, ◌%◌, ◌≤◌, ◌<◌, ◌≡◌, refl, true, false, ◌&&◌, List, eqb, length, drop, get_or, replicate}
+use Rattle.std.specs.Prelude.{ℕ, ◌+◌, ◌-◌, ◌*◌, ◌/◌, ◌%◌, ◌≤◌, ◌<◌, ◌≡◌, refl, true, false, List, eqb, length, drop, get_or, replicate}
 use Rattle.std.proofs.Common.{sym, ap, ◌∙◌, ⊎_elim, arith, length-take, get_or-take, le-leb, lt-ltb, le-ltb}
 use Rattle.std.proofs.Math.Logic.{ite}
 use Rattle.std.proofs.Math.ListN.{get_or-eq_default}

@@ -1,7 +1,7 @@
 -- What is read from a fault section: whether it is one, "counts and name by value", a module's bit by its number, an error
 -- by its index, "the options as a returned part". All but the first is said of any octets, by the counts in them, and
 -- judges nothing; of a section's octets it is what the section says (ReadingLaws).
-use Rattle.std.specs.Prelude.{ℕ, ◌+◌, ◌-◌, ◌*◌, ◌/◌, ◌%◌, Bool, true, false, cond, ◌&&◌, List, eqb, leb, ltb, length, replicate}
+use Rattle.std.specs.Prelude.{ℕ, ◌+◌, ◌-◌, ◌*◌, ◌/◌, ◌%◌, Bool, cond, ◌&&◌, List, eqb, leb, ltb, length, replicate}
 use Rattle.std.proofs.Math.Pow.{are_bytes}
 use Rattle.octets.specs.Number.{octet, number}
 use Rattle.octets.specs.Run.{run}

@@ -8,10 +8,9 @@ use Rattle.std.proofs.Math.ListN.{length}
 use Rattle.std.proofs.Math.Seq.{take_all}
 use Rattle.octets.specs.Run.{run}
 use Rattle.octets.specs.Split.{lt_or_le, true_or_false, both, and_left, and_right}
-use Rattle.ring.specs.Check.{is_repeat}
+use Rattle.ring.specs.Check.{is_repeat, check}
 use Rattle.ring.specs.Ring.{OnRing, is_number, newer}
 use Rattle.ring.specs.declared.Verdict.{Verdict}
-use Rattle.ring.specs.Check.{check}
 use Rattle.ring.proofs.RingLaws.{on_ring, same_version, same_number}
 use Rattle.header.specs.Codes.{within as in_range}
 use Rattle.header.specs.declared.Cut.{Cut}

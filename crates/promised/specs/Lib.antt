@@ -19,4 +19,5 @@ pub mod Age
 pub mod AlivePast
 -- For the proofs alone: what one sender sees of a past.
 pub mod View
+
 -- Proved of them.

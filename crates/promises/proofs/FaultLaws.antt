@@ -1,15 +1,14 @@
 -- What 02, Item 2 asks of the fault section, proved from the contracts of its calls. Assumes nothing.
-use Rattle.std.specs.Prelude.{ℕ, ◌+◌, ◌*◌, ◌≤◌, ◌<◌, ◌≡◌, ◌≢◌, Bool, not, cond, List, [], ◌∷◌, ◌++◌, ltb, get_or}
+use Rattle.std.specs.Prelude.{ℕ, ◌+◌, ◌*◌, ◌≤◌, ◌≡◌, Bool, not, cond, List, [], ◌∷◌, ◌++◌, ltb}
 use Rattle.std.proofs.Math.Path.{refl, ap}
 use Rattle.std.proofs.Common.{sym, subst, ◌∙◌, ⊎_elim, zero-add, arith}
 use Rattle.std.proofs.Math.Bool.{true, false}
 use Rattle.std.proofs.Math.ListN.{length, drop}
-use Rattle.std.proofs.Math.Pow.{are_bytes}
-use borrow.Author.Tests.{ltb-false, le-ltb, not-true, not-false}
+use borrow.Author.Tests.{ltb-false, le-ltb}
 use Rattle.octets.specs.Answer.{one_answer}
 use Rattle.octets.specs.Run.{run, laid}
 use Rattle.octets.proofs.RunLaws.{laid_fits}
-use Rattle.octets.specs.Split.{true_or_false, never_both}
+use Rattle.octets.specs.Split.{true_or_false}
 use Rattle.fault.specs.declared.Error.{Error}
 use Rattle.fault.specs.declared.reading.Report.{Report}
 use Rattle.fault.specs.declared.writing.Writing.{Writing}
@@ -18,15 +17,15 @@ use Rattle.fault.specs.Places.{modules_in}
 use Rattle.fault.specs.Reading.{is_section, report_of, reading_of, report, refused as unread, no_error, error_at}
 use Rattle.fault.proofs.ReadingLaws.{is_section_lem, section_is, report_back, options_back, dead_back, error_back}
 use Rattle.fault.proofs.RoundLaws.{given_size, given_within_lem, given_same, size_same, parts_keep, numbers_are}
-use Rattle.fault.specs.Section.{Section, bits_size, bits_of, numbers_of, octets_of, is_within, SectionOf}
+use Rattle.fault.specs.Section.{Section, bits_size, bits_of, numbers_of, octets_of, is_within}
 use Rattle.fault.proofs.SectionLaws.{Within, within_facts, within_is, section_size, bits_there, says_modules}
 use Rattle.fault.specs.Writing.{section_given, size_given, keeps_rules, writing_of, buffer_of, writing_told}
 use Rattle.fault.proofs.WritingLaws.{keeps_facts, given_modules, given_bits, given_numbers}
-use Rattle.answers.specs.Told.{least_refusal, RefusedAs}
-use Rattle.rules.specs.calls.First.{Row, row, first, Given}
-use Rattle.rules.proofs.calls.FirstLaws.{first_given, given_first, given_above, above, first_here, first_later}
-use Rattle.promises.specs.Course.{ReadMeets, DeadMeets, ErrorMeets, OptionsMeets, Parts, WriteMeets}
-use Rattle.promises.specs.Demands.{Refuses, ReadRefuses, WriteRefuses, ReadsExactly, ReadBack, ReadsAll, OfTypes, PartsOf, WrittenAs, WritesSections, WritesAll, ReadFrom, WritesSame, NoneShort, OneReading, OneWriting}
+use Rattle.answers.specs.Told.{RefusedAs}
+use Rattle.rules.specs.calls.First.{Row, row, first}
+use Rattle.rules.proofs.calls.FirstLaws.{first_given, given_first, given_above, above}
+use Rattle.promises.specs.Course.{ReadMeets, Parts, WriteMeets}
+use Rattle.promises.specs.Demands.{Refuses, ReadRefuses, WriteRefuses, ReadsExactly, ReadsAll, PartsOf, WrittenAs, WritesSections, WritesAll, ReadFrom, WritesSame, NoneShort, OneReading, OneWriting}
 
 -- ---- refusals
 

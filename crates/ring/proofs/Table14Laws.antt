@@ -7,8 +7,7 @@ use Rattle.std.proofs.Math.Dec.{eqb}
 use borrow.Author.Tests.{eqb-true, eq-eqb, ne_eqb, lt-ltb, le-ltb, le-leb, ltb-true, leb-true}
 use Rattle.octets.specs.Split.{lt_or_le, eq_or_ne, same_test, both, and_left, and_right, or_left, or_right, either, not_both}
 use Rattle.ring.specs.declared.Number.{Number}
-use Rattle.ring.specs.declared.Verdict.{Verdict}
-use Rattle.ring.specs.declared.Verdict.TheVariants.{Unchecked, First, Restart, Repeat, Next, Gap}
+use Rattle.ring.specs.declared.Verdict.TheVariants.{Repeat, Next, Gap}
 use Rattle.ring.specs.Ring.{M, OnRing, remainder, skipped}
 use Rattle.ring.proofs.RingLaws.{remainder_below, remainder_above}
 use Rattle.ring.specs.Check.{rule4}

@@ -1,6 +1,6 @@
 -- The number check as 01 prints it, rule by rule and with its own numbers, and as Table 14; which number is newer, as 02
 -- prints it. Proved in PrintedLaws.antt.
-use Rattle.std.specs.Prelude.{ℕ, ◌+◌, ◌-◌, ◌%◌, ◌≤◌, ◌<◌, ◌≡◌, ◌≢◌, true, false, [], ◌∷◌, map}
+use Rattle.std.specs.Prelude.{ℕ, ◌+◌, ◌%◌, ◌≤◌, ◌<◌, ◌≡◌, ◌≢◌, true, false, [], ◌∷◌, map}
 use Rattle.ring.specs.declared.Number.{Number}
 use Rattle.ring.specs.declared.Version.{Version}
 use Rattle.ring.specs.declared.Verdict.{Verdict}

@@ -14,6 +14,7 @@ pub mod Question
 pub mod Multicast
 -- What no call looks at.
 pub mod Alike
+
 -- Proved of them.
 -- Each number exactly when its row applies first; a refusal changes nothing.
 -- What a piece changes, and nothing of another sender.

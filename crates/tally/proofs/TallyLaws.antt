@@ -9,7 +9,7 @@ use Rattle.answers.specs.declared.Outcome.{Outcome}
 use Rattle.answers.specs.declared.Outcome.TheVariants.{Refused, Stored, Delivered}
 use Rattle.answers.specs.Told.{RefusedAs, outcome_told, message_told, OutcomeTells}
 use Rattle.rules.proofs.calls.ExactlyLaws.{message_refuses, message_given, message_tells}
-use Rattle.rules.specs.calls.Message.{refused, message_answer, message_storage}
+use Rattle.rules.specs.calls.Message.{refused, message_answer}
 use Rattle.tally.specs.declared.Tally.{Tally}
 use Rattle.tally.specs.Tally.{most, stopping, counted, SaveACount, counted_by}
 

@@ -1,6 +1,5 @@
 -- Each return is the number of the first row that applies. Assumes nothing.
-use mathlib.Core.Path.{sym, ap, ◌∙◌}
-use mathlib.Core.Bool.{not}
+use mathlib.Core.Path.{sym, ◌∙◌}
 use borrow.Author.Tests.{le-leb, lt-leb}
 use Rattle.rules.specs.calls.First.{first}
 use Rattle.alive.proofs.signal_number.Goals as goal

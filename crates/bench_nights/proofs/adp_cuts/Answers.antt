@@ -1,5 +1,5 @@
 -- After c turns the pieces 1 to c are cut. Assumes nothing.
-use Rattle.std.proofs.Common.{◌≡◌, ◌-◌, ◌≤◌, refl, add-one, arith, rules}
+use Rattle.std.proofs.Common.{◌≡◌, ◌-◌, refl, add-one, arith, rules}
 use Rattle.bench_nights.specs.Cuts.{cuts_sum, cuts_buffer}
 use Rattle.bench_nights.proofs.adp_cuts.Goals as goal
 

@@ -1,5 +1,5 @@
 -- After i packets the rest leads to the night's end. Assumes nothing.
-use Rattle.std.proofs.Common.{◌≡◌, ◌-◌, ◌≤◌, length, refl, ap, ◌∙◌, arith, rules}
+use Rattle.std.proofs.Common.{◌-◌, length, refl, ap, ◌∙◌, arith, rules}
 use Rattle.rules.specs.pasts.Past.{World, step}
 use Rattle.rules.proofs.pasts.PastLaws.{same_room}
 use Rattle.bench_nights.specs.Night.{begun, sum_by}

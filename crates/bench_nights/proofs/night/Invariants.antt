@@ -1,5 +1,5 @@
 -- After i packets the rest leads to the night's end. Assumes nothing.
-use Rattle.std.proofs.Common.{◌≡◌, ◌-◌, ◌≤◌, length, ◌∙◌}
+use Rattle.std.proofs.Common.{◌≡◌, ◌-◌, ◌≤◌, length}
 use Rattle.bench_nights.specs.Night.{board_of, begun}
 use Rattle.bench_nights.proofs.NightLaws.{Towards}
 use Rattle.bench_nights.proofs.night.Given as goal

@@ -1,5 +1,5 @@
 -- After i turns the first i places are written. Assumes nothing.
-use Rattle.std.proofs.Common.{◌≡◌, ◌-◌, ◌≤◌, refl, add-one, arith, length-set, rules}
+use Rattle.std.proofs.Common.{◌≡◌, ◌-◌, refl, add-one, arith, length-set, rules}
 use Rattle.state.specs.State.{senders_most}
 use Rattle.bench_nights.specs.Night.{nodes_to}
 use Rattle.bench_nights.proofs.nodes.Goals as goal

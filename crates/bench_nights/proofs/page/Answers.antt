@@ -1,5 +1,5 @@
 -- After i places the rest leads to the page's sum. Assumes nothing.
-use Rattle.std.proofs.Common.{◌≡◌, ◌-◌, ◌≤◌, refl, add-one, arith, drop_of_length-le, drop-cons, rules}
+use Rattle.std.proofs.Common.{◌-◌, refl, add-one, arith, drop_of_length-le, drop-cons, rules}
 use Rattle.bench_nights.specs.Pages.{held_sum}
 use Rattle.bench_nights.proofs.page.Goals as goal
 

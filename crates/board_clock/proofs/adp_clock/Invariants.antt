@@ -1,6 +1,6 @@
 -- After i turns the first i senders are aged. Assumes nothing.
-use Prim.Native.Nat.{◌-◌, ◌%◌, ◌≤◌}
-use mathlib.Core.Path.{◌≡◌, ◌∙◌}
+use Prim.Native.Nat.{◌-◌, ◌≤◌}
+use mathlib.Core.Path.{◌≡◌}
 use Rattle.state.specs.State.{senders_most}
 use Rattle.words.specs.Words.{word}
 use Rattle.words_look.proofs.LookLaws.{Held}

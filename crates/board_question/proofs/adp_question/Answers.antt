@@ -1,6 +1,6 @@
 -- After i turns nothing of the first i senders is open. Assumes nothing.
-use Prim.Native.Nat.{ℕ, ◌-◌, ◌%◌, ◌≤◌}
-use mathlib.Core.Path.{◌≡◌, sym, ap, ◌∙◌}
+use Prim.Native.Nat.{ℕ, ◌-◌, ◌%◌}
+use mathlib.Core.Path.{sym, ap, ◌∙◌}
 use native.Mathlib.Omega.{arith}
 use Rattle.map.proofs.MapLaws.{lowest_most}
 use Rattle.words_look.proofs.LookLaws.{held_by}

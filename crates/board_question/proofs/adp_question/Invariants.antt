@@ -1,6 +1,6 @@
 -- After i turns nothing of the first i senders is open. Assumes nothing.
-use Prim.Native.Nat.{◌-◌, ◌%◌, ◌≤◌}
-use mathlib.Core.Path.{◌≡◌, ◌∙◌}
+use Prim.Native.Nat.{◌-◌, ◌≤◌}
+use mathlib.Core.Path.{◌≡◌}
 use Rattle.words.specs.Words.{word}
 use Rattle.words_look.proofs.LookLaws.{Held}
 use Rattle.board_question.proofs.MissingLaws.{NoneTo}

@@ -2,9 +2,8 @@
 -- but what it holds between turns is known: after so many turns it is what a run of so many whole fields left
 -- (`OfRun`), and so the state and the storage that is lent to it are those that a past left (`run_past`). Assumes
 -- nothing.
-use Prim.Native.Nat.{◌+◌, ◌-◌, ◌≤◌, ◌<◌}
-use mathlib.Core.List.{◌++◌}
-use mathlib.Core.Path.{◌≡◌, ◌∙◌}
+use Prim.Native.Nat.{◌-◌, ◌≤◌}
+use mathlib.Core.Path.{◌≡◌}
 use lib.ListN.{length}
 use Rattle.capture_run.specs.Run.{OfRun}
 use Rattle.capture.proofs.main.Given as goal

@@ -26,9 +26,9 @@ returns-in-Clock c = record { value = rw c.in-Clock.is c.three.ensures; prefix_l
 pub returns-in-Alive : goal.returns-in-Alive
 unfolding line_of
 returns-in-Alive c = record {
-      value = rw c.in-Alive.is c.one-in-Alive.ensures;
-      prefix_len = text_counts _ _ c.one-in-Alive.ensures;
-    }
+  value = rw c.in-Alive.is c.one-in-Alive.ensures;
+  prefix_len = text_counts _ _ c.one-in-Alive.ensures;
+}
 
 pub returns-in-End : goal.returns-in-End
 unfolding line_of

@@ -2,8 +2,7 @@
 use borrow.Author.Rules.{rules}
 use native.Mathlib.Omega.{arith}
 use Rattle.octets.specs.Split.{mapped_length}
-use Rattle.capture_lines.proofs.LineLaws.{word_added}
-use Rattle.capture_lines.proofs.LineLaws.{digits_room}
+use Rattle.capture_lines.proofs.LineLaws.{word_added, digits_room}
 use Rattle.capture_lines.proofs.word.Goals as goal
 
 pub overflow_add-result-2 : goal.overflow_add-result-2

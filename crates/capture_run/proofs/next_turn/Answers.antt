@@ -1,5 +1,5 @@
 -- Each arm is that of the definition. Assumes nothing.
-use mathlib.Core.Path.{refl, sym, ◌∙◌}
+use mathlib.Core.Path.{sym, ◌∙◌}
 use Rattle.capture_run.specs.Turn.{turn_by, turn_storage}
 use Rattle.capture_run.proofs.next_turn.Goals as goal
 

@@ -1,5 +1,4 @@
 -- Each arm is that of the definition. Assumes nothing.
-use mathlib.Core.Path.{refl}
 use Rattle.capture_run.specs.Turn.{turn_of, storage_of}
 use Rattle.capture_run.proofs.turn_of.Goals as goal
 

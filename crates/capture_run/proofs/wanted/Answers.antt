@@ -1,5 +1,5 @@
 -- Each arm is that of the definition. Assumes nothing.
-use mathlib.Core.Path.{refl, sym, ◌∙◌}
+use mathlib.Core.Path.{sym, ◌∙◌}
 use native.Mathlib.Omega.{arith}
 use Rattle.capture_run.specs.Turn.{wanted_by}
 use Rattle.capture_run.proofs.wanted.Goals as goal

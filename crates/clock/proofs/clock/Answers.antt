@@ -1,6 +1,6 @@
 -- After i turns the first i senders have aged. Assumes nothing.
-use Prim.Native.Nat.{◌≤◌, ◌-◌}
-use mathlib.Core.Path.{◌≡◌, refl, sym, ap, ◌∙◌}
+use Prim.Native.Nat.{◌-◌}
+use mathlib.Core.Path.{refl, sym, ap, ◌∙◌}
 use native.Mathlib.Omega.{arith}
 use Rattle.rules.specs.calls.Clock.{drops, dies, aged_senders, map_where, not_ticked}
 use Rattle.rules.proofs.calls.ClockLaws.{map_again, map_below, state_more, ticked_is, clock_nine, clock_back_lem, clock_on}

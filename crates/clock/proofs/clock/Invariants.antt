@@ -1,6 +1,6 @@
 -- After i turns the first i senders have aged. Assumes nothing.
 use Prim.Native.Nat.{◌≤◌, ◌-◌}
-use mathlib.Core.Path.{◌≡◌, ◌∙◌}
+use mathlib.Core.Path.{◌≡◌}
 use Rattle.rules.specs.calls.Clock.{drops, dies, aged_senders, map_where}
 use Rattle.state.specs.State.{senders_most, with_senders}
 use Rattle.clock.proofs.clock.Given as goal

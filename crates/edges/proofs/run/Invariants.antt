@@ -1,5 +1,5 @@
 -- Every turn makes one call, and there are turns enough. Assumes nothing.
-use mathlib.Core.Path.{◌≡◌, ◌∙◌}
+use mathlib.Core.Path.{◌≡◌}
 use lib.ListN.{length}
 use Rattle.edges.proofs.run.Given as goal
 

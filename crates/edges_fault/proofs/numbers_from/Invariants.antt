@@ -1,6 +1,6 @@
 -- Each turn fills one number. Assumes nothing.
 use Prim.Native.Nat.{◌≤◌, ◌-◌}
-use mathlib.Core.Path.{◌≡◌, ◌∙◌}
+use mathlib.Core.Path.{◌≡◌}
 use lib.ListN.{length}
 use Rattle.edges_fault.proofs.numbers_from.Given as goal
 

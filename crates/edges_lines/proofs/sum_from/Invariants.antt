@@ -1,6 +1,6 @@
 -- Each turn takes one octet into the sum. Assumes nothing.
-use Prim.Native.Nat.{◌≤◌, ◌<◌, ◌+◌, ◌-◌}
-use mathlib.Core.Path.{◌≡◌, ◌∙◌}
+use Prim.Native.Nat.{◌≤◌, ◌<◌, ◌-◌}
+use mathlib.Core.Path.{◌≡◌}
 use lib.ListN.{length, drop}
 use Rattle.edges_lines.specs.Sum.{sum_from}
 use Rattle.edges_lines.proofs.sum_from.Given as goal

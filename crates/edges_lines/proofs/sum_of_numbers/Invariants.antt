@@ -1,6 +1,6 @@
 -- Each turn takes the four octets of one number into the sum. Assumes nothing.
-use Prim.Native.Nat.{◌≤◌, ◌<◌, ◌+◌, ◌-◌}
-use mathlib.Core.Path.{◌≡◌, ◌∙◌}
+use Prim.Native.Nat.{◌≤◌, ◌<◌, ◌-◌}
+use mathlib.Core.Path.{◌≡◌}
 use lib.ListN.{length, drop}
 use Rattle.edges_lines.specs.Sum.{sum_from, sum_of, in_octets}
 use Rattle.edges_lines.proofs.sum_of_numbers.Given as goal

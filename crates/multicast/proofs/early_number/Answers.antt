@@ -1,7 +1,7 @@
 -- Each return is the number of the first row that applies. Assumes nothing.
 use Prim.Native.Nat.{ℕ}
 use mathlib.Core.Path.{◌≡◌, sym, ap, ◌∙◌}
-use mathlib.Core.Bool.{Bool, not}
+use mathlib.Core.Bool.{Bool}
 use borrow.Author.Tests.{le-leb, lt-leb}
 use Rattle.rules.specs.calls.First.{first}
 use Rattle.rules.specs.calls.Multicast.{Tables, tables_within}

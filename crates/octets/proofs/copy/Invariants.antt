@@ -1,6 +1,6 @@
 -- The loop has copied i octets of the run. Assumes nothing.
 use Prim.Native.Nat.{◌≤◌, ◌-◌}
-use mathlib.Core.Path.{◌≡◌, ◌∙◌}
+use mathlib.Core.Path.{◌≡◌}
 use lib.ListN.{length}
 use lib.Seq.{paste}
 use Rattle.octets.proofs.copy.Given as goal

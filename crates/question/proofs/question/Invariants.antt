@@ -1,6 +1,6 @@
 -- The walk to the first missing piece: senders before it have nothing open, pieces before it are held. Assumes nothing.
 use Prim.Native.Nat.{ℕ, ◌+◌, ◌-◌, ◌≤◌, ◌<◌}
-use mathlib.Core.Path.{◌≡◌, ◌∙◌}
+use mathlib.Core.Path.{◌≡◌}
 use mathlib.Core.Bool.{true, false}
 use Rattle.answers.specs.declared.Missing.TheVariants.{NoneOpen}
 use Rattle.map.specs.Map.{holds}

@@ -1,6 +1,5 @@
 -- Each return is the first row that applies, as far as the tests before it decide the rows. Assumes nothing.
 use mathlib.Core.Path.{sym, ◌∙◌}
-use mathlib.Core.Bool.{◌&&◌}
 use Rattle.rules.specs.calls.First.{first}
 use Rattle.rules.specs.calls.Admit.{rejoins}
 use borrow.Author.Tests.{eq-eqb, ne_eqb}

@@ -1,6 +1,6 @@
 -- After i turns the first i senders stand in the table. Assumes nothing.
 use Prim.Native.Nat.{◌≤◌, ◌-◌}
-use mathlib.Core.Path.{◌≡◌, ◌∙◌}
+use mathlib.Core.Path.{◌≡◌}
 use lib.ListN.{length}
 use Rattle.state.specs.State.{senders_most}
 use Rattle.setup.specs.private.Settled.{seated}

@@ -1,5 +1,5 @@
 -- After i turns the first i senders have passed. Assumes nothing.
-use Prim.Native.Nat.{◌-◌, ◌≤◌}
+use Prim.Native.Nat.{◌-◌}
 use mathlib.Core.Path.{◌≡◌, refl, sym}
 use mathlib.Core.Bool.{true}
 use native.Mathlib.Omega.{arith}
@@ -17,12 +17,11 @@ returns-then-not-sender_within c =
     c.if-not-sender_within.true
 
 pub loop-i-preserved : goal.loop-i-preserved
-loop-i-preserved c =
-    (
-      omega arith,
-      senders_more c.requires c.loop-i-test.true c.first_of-first.ensures c.at-clock.ensures c.sender_within.ensures
-          c.loop-i.invariant.1 c.if-not-sender_within.false,
-    )
+loop-i-preserved c = (
+  omega arith,
+  senders_more c.requires c.loop-i-test.true c.first_of-first.ensures c.at-clock.ensures c.sender_within.ensures
+      c.loop-i.invariant.1 c.if-not-sender_within.false,
+)
 
 pub returns : goal.returns
 returns c =

@@ -2,7 +2,6 @@
 use mathlib.Core.Path.{sym}
 use borrow.Author.Tests.{le-leb, lt-leb}
 use Rattle.words.specs.Words.{record_in}
-use Prim.Native.Nat.{◌%◌}
 use Rattle.words_look.proofs.private.TestsLaws.{message_tests}
 use Rattle.words_look.proofs.message_within.Goals as goal
 

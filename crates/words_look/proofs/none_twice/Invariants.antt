@@ -1,6 +1,5 @@
 -- After i turns the addresses of the first i senders have been seen, and are new. Assumes nothing.
-use Prim.Native.Nat.{◌-◌, ◌%◌}
-use mathlib.Core.Path.{◌≡◌, ◌∙◌}
+use Prim.Native.Nat.{◌-◌}
 use Rattle.words_look.proofs.private.TestsLaws.{Apart}
 use Rattle.words_look.proofs.none_twice.Given as goal
 

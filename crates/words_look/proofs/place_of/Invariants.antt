@@ -1,6 +1,6 @@
 -- After i turns no place before i has it. Assumes nothing.
 use Prim.Native.Nat.{◌-◌, ◌≤◌}
-use mathlib.Core.Path.{◌≡◌, ◌∙◌}
+use mathlib.Core.Path.{◌≡◌}
 use Rattle.words.specs.Words.{address_in}
 use Rattle.words_look.specs.Look.{place_in}
 use Rattle.words_look.proofs.place_of.Given as goal

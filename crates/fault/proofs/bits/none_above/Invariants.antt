@@ -1,6 +1,6 @@
 -- The loop has found no bit above the count in the first i octets of the rest. Assumes nothing.
-use Prim.Native.Nat.{◌-◌, ◌%◌, ◌≤◌}
-use mathlib.Core.Path.{◌≡◌, ◌∙◌}
+use Prim.Native.Nat.{◌-◌, ◌≤◌}
+use mathlib.Core.Path.{◌≡◌}
 use lib.ListN.{length, drop}
 use Rattle.fault.specs.Bits.{none_above}
 use Rattle.fault.proofs.bits.none_above.Given as goal

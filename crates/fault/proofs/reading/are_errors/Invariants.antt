@@ -1,6 +1,6 @@
 -- The loop has looked at all errors but those left. Assumes nothing.
 use Prim.Native.Nat.{◌+◌, ◌*◌, ◌≤◌}
-use mathlib.Core.Path.{◌≡◌, ◌∙◌}
+use mathlib.Core.Path.{◌≡◌}
 use lib.ListN.{length, drop}
 use Rattle.fault.specs.Section.{are_errors}
 use Rattle.fault.specs.Places.{errors_from}

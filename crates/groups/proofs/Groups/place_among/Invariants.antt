@@ -1,6 +1,6 @@
 -- After i turns no place before i has it. Assumes nothing.
 use Prim.Native.Nat.{◌-◌, ◌≤◌}
-use mathlib.Core.Path.{◌≡◌, ◌∙◌}
+use mathlib.Core.Path.{◌≡◌}
 use Rattle.groups.specs.Groups.{number_at, place_among}
 use Rattle.groups.proofs.Groups.place_among.Given as goal
 

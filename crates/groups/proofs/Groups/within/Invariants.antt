@@ -1,6 +1,6 @@
 -- After i turns the first i groups have been judged. Assumes nothing.
 use Prim.Native.Nat.{◌-◌, ◌≤◌}
-use mathlib.Core.Path.{◌≡◌, ◌∙◌}
+use mathlib.Core.Path.{◌≡◌}
 use Rattle.groups.specs.Groups.{number_at, each_group}
 use Rattle.groups.proofs.Groups.within.Given as goal
 

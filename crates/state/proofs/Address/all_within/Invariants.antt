@@ -1,6 +1,6 @@
 -- After i turns the first i addresses have been judged. Assumes nothing.
 use Prim.Native.Nat.{◌≤◌, ◌-◌}
-use mathlib.Core.Path.{◌≡◌, ◌∙◌}
+use mathlib.Core.Path.{◌≡◌}
 use lib.ListN.{length}
 use Rattle.state.specs.Limits.{given, addresses_within}
 use Rattle.state.specs.State.{senders_most}

@@ -1,6 +1,6 @@
 -- After i turns the first i senders have been judged, found and seen. Assumes nothing.
 use Prim.Native.Nat.{◌≤◌, ◌-◌}
-use mathlib.Core.Path.{◌≡◌, ◌∙◌}
+use mathlib.Core.Path.{◌≡◌}
 use mathlib.Core.Bool.{◌&&◌}
 use lib.ListN.{length}
 use Rattle.state.specs.Limits.{senders_within, address_at}
