@@ -3,11 +3,10 @@
 // include/adp.h declares them all.
 //
 // specs/Calls.antt says what each answers and leaves.
+#![tactic(auto)]
 
 // What the message call answers. The delivered octets are `length` octets from `start` on, of the packet where `slice`
 // is 1, of the storage where it is 2, and of neither where it is 0.
-#![tactic(auto)]
-
 #[repr(C)]
 #[derive(Clone, Copy)]
 pub struct Told {

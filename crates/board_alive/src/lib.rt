@@ -13,8 +13,7 @@ use signal::{Body, read_body};
 use state::{Address, Heard};
 use words::{Record, places};
 
-#[unsafe(no_mangle)]
-pub extern "C" fn adp_alive(state: &mut [u64], packet: &[u8]) -> u8
+pub fn adp_alive(state: &mut [u64], packet: &[u8]) -> u8
     ensures answer { result ≡ alive_for state.old packet.now }
     ensures left { state.new ≡ left_by state.old (alive_answer (state_in state.old) packet.now).state }
 {

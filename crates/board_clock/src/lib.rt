@@ -15,8 +15,7 @@ use map::marked;
 use state::Receiver;
 use words::{Record, places};
 
-#[unsafe(no_mangle)]
-pub extern "C" fn adp_clock(state: &mut [u64], ms: u64) -> Ticked
+pub fn adp_clock(state: &mut [u64], ms: u64) -> Ticked
     ensures answer { result ≡ clock_for state.old ms }
     ensures left { state.new ≡ left_by state.old (clock_answer (state_in state.old) ms).state }
 {

@@ -9,14 +9,7 @@ use board::Cutting;
 use cut::cutter::cutter;
 use header::Given;
 
-#[unsafe(no_mangle)]
-pub extern "C" fn adp_cut(
-    given: Given,
-    message: &[u8],
-    u: u16,
-    piece: u8,
-    buffer: &mut [u8],
-) -> Cutting
+pub fn adp_cut(given: Given, message: &[u8], u: u16, piece: u8, buffer: &mut [u8]) -> Cutting
     ensures answer { result ≡ cutting_of (cutter_answer given message.now u piece (length buffer.old)) }
     ensures written { buffer.new ≡ cutter_buffer given message.now u piece buffer.old }
 {

@@ -11,29 +11,25 @@ use fault::reading::{Report, error_at, is_dead, options, options_at, read_sectio
 use fault::writing::write_section;
 use fault::{Error, NAME};
 
-#[unsafe(no_mangle)]
-pub extern "C" fn adp_fault_read(section: &[u8]) -> Report
+pub fn adp_fault_read(section: &[u8]) -> Report
     ensures { result ≡ reading_of section.now }
 {
     read_section(section)
 }
 
-#[unsafe(no_mangle)]
-pub extern "C" fn adp_fault_dead(section: &[u8], x: u32) -> bool
+pub fn adp_fault_dead(section: &[u8], x: u32) -> bool
     ensures { result ≡ dead_at section.now x }
 {
     is_dead(section, x)
 }
 
-#[unsafe(no_mangle)]
-pub extern "C" fn adp_fault_error(section: &[u8], index: u32) -> Error
+pub fn adp_fault_error(section: &[u8], index: u32) -> Error
     ensures { result ≡ error_at section.now index }
 {
     error_at(section, index)
 }
 
-#[unsafe(no_mangle)]
-pub extern "C" fn adp_fault_options(section: &[u8]) -> Options
+pub fn adp_fault_options(section: &[u8]) -> Options
     ensures { result ≡ options_for section.now }
 {
     let part = options(section);
@@ -51,8 +47,7 @@ pub extern "C" fn adp_fault_options(section: &[u8]) -> Options
 }
 
 // C cannot pass an array, so the name is lent.
-#[unsafe(no_mangle)]
-pub extern "C" fn adp_fault_write(
+pub fn adp_fault_write(
     modules: u32,
     bits: &[u8],
     errors: &[u16],

@@ -7,8 +7,7 @@ ghost use Rattle.board.specs.Calls.{held_for};
 use state::Receiver;
 use words::places;
 
-#[unsafe(no_mangle)]
-pub extern "C" fn adp_held(state: &[u64], place: u8) -> u8
+pub fn adp_held(state: &[u64], place: u8) -> u8
     ensures { result ≡ held_for state.now place }
 {
     if words::at(state, places::COUNT) <= place as u64 {

@@ -19,8 +19,7 @@ use state::{Address, Receiver};
 use words::places;
 use words_look::{place_of, within};
 
-#[unsafe(no_mangle)]
-pub extern "C" fn adp_message(state: &mut [u64], storage: &mut [u8], packet: &[u8]) -> Told
+pub fn adp_message(state: &mut [u64], storage: &mut [u8], packet: &[u8]) -> Told
     ensures answer { result ≡ message_for state.old (length storage.old) packet.now }
     ensures left { state.new ≡ left_by state.old (message_answer (state_in state.old) (length storage.old) packet.now).state }
     ensures stored { storage.new ≡ storage_for state.old storage.old packet.now }

@@ -16,8 +16,7 @@ use state::{Address, Look};
 use words::places;
 use words_look::look;
 
-#[unsafe(no_mangle)]
-pub extern "C" fn adp_multicast(
+pub fn adp_multicast(
     state: &[u64],
     versions: &mut [u32],
     numbers: &mut [u32],

@@ -8,8 +8,7 @@ use board::Missing;
 use map::lowest_missing;
 use words::places;
 
-#[unsafe(no_mangle)]
-pub extern "C" fn adp_question(state: &[u64]) -> Missing
+pub fn adp_question(state: &[u64]) -> Missing
     ensures { result ≡ question_for state.now }
 {
     if !words_look::within(state) {

@@ -10,8 +10,7 @@ use state::Receiver;
 use words::{Record, groups_word, places};
 
 // Words past the senders are written 0. Other than as many words as a state has are outside setup's limits, and stay.
-#[unsafe(no_mangle)]
-pub extern "C" fn adp_setup(state: &mut [u64], settings: Setup) -> u8
+pub fn adp_setup(state: &mut [u64], settings: Setup) -> u8
     ensures answer { result ≡ setup_for state.old settings }
     ensures left { state.new ≡ setup_words state.old settings }
 {

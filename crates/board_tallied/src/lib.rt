@@ -11,8 +11,7 @@ use board::Told;
 use board_message::adp_message;
 use tally::Tally;
 
-#[unsafe(no_mangle)]
-pub extern "C" fn adp_message_tallied(
+pub fn adp_message_tallied(
     state: &mut [u64],
     storage: &mut [u8],
     packet: &[u8],

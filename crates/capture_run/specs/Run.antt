@@ -1,7 +1,7 @@
 -- A run of the program: "The program reads tagged fields", and takes a turn for each. Between two setups its turns are
 -- the calls of a past: "A past is a setup, storage of its right length with any octets in it, and then calls, each
 -- given the state and storage that the one before left." Proved in RunLaws.antt. That such a past is a course, of which
--- the demands speak, is `start-course` and `a-course` of `promises`.
+-- the demands speak, is `start_course` and `a_course` of `promises`.
 use Rattle.std.specs.Prelude.{ℕ, ◌+◌, ◌*◌, ◌≤◌, ◌≡◌, true, false, List, [], ◌∷◌, ◌++◌, length, take, drop}
 use Rattle.state.specs.declared.Receiver.{Receiver}
 use Rattle.state.specs.State.{empty_receiver}

@@ -86,7 +86,7 @@ pairs_next s at l i h room =
 
 -- ---- what is given is a section's
 
--- What `keepsRules` asks, each by itself.
+-- What `keeps_rules` asks, each by itself.
 pub record Keeps (size modules : ℕ) (bits numbers : List ℕ) : Type 0 where
   pub most : size ≤ most_section
   pub bits_long : length bits ≡ bits_size modules

@@ -149,7 +149,7 @@ CameBefore m es c = Came m c es × ((d : ℕ) × Numbered m d × ¬ (Came m d es
 abbrev pub AllCame : Sent → List Event → Type 0
 AllCame m es = (d : ℕ) → Numbered m d → Came m d es
 
--- One of the four applies to every arrival: `one-applies` (CameLaws.antt).
+-- One of the four applies to every arrival: `one_applies` (CameLaws.antt).
 pub data OneApplies (m : Sent) (es : List Event) (c : ℕ) : Type 0 where
   is_last : LastMissing m es c → OneApplies m es c
   is_one : OneOfSeveral m es c → OneApplies m es c

@@ -1,4 +1,4 @@
--- What is promised of every past. X.antt is what a reader must believe, XLaws.antt is what is proved of it.
+-- What is promised of every past. X.antt is what a reader must believe; XLaws.antt, in proofs/, is what is proved of it.
 
 -- What a receiver says, by the past alone.
 pub mod Judged

@@ -89,8 +89,8 @@ pub data Condition : Type 0 where
 abbrev pub NoneAsked : List ℕ → MessageTold → Type 0
 NoneAsked p told = Unit {0}
 
--- Together they are what the theorem asks for, no less (`conditions-may`, `conditions-between`) and no more
--- (`asked-conditions`).
+-- Together they are what the theorem asks for, no less (`conditions_may`, `conditions_between`) and no more
+-- (`asked_conditions`).
 abbrev pub Fulfilled : Condition → Example → Type 0
 -- "a registered sender's message"
 Fulfilled registered e = (e.place < length (senders_of e.setup)) × (given (senders_of e.setup) e.place ≡ (sent e).address)

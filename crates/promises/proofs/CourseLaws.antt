@@ -112,7 +112,7 @@ abbrev pub course_start : (q : Setup) (r : Started) (w : World) → SetupMeets q
 course_start q r w m = record { given = q; state = m.handed_on ∙ ap (λ (x : Started). x.state) m.answered; room = m.room }
 
 -- Such a world is what a setup gave: so what is promised of courses from a setup on is promised of every past of
--- `rules`, by `a-course`.
+-- `rules`, by `a_course`.
 pub start_course : (w : World) (s : Start w) → SetupMeets s.given (setup_answer s.given) w
 start_course w s = record { answered = refl; handed_on = s.state; room = s.room }
 

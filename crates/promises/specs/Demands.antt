@@ -118,7 +118,7 @@ CutterRefuses = (g : Given) (m : List ℕ) (u c : ℕ) (buffer : List ℕ) (r : 
     → Refuses (row 23 (not (cuts g m u c (length buffer))) ∷ []) (cutter_told r).number (λ k. ((cutter_told r).length ≡ 0) × (left ≡ buffer))
 
 -- A number is told by one case of an answer alone, since a refusal has one of 9 or more: what is said here of numbers
--- and values is said of the answers (`one_answer`, `one-group`, `one-call` and `one-missing` of `answers`).
+-- and values is said of the answers (`one_answer`, `one_group`, `one_call` and `one_missing` of `answers`).
 abbrev pub Tells : (e : Event) → Said e → Type 0
 Tells (message packet) r = OutcomeTells r.0.outcome
 Tells (alive packet) r = CallTells r.call

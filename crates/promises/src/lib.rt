@@ -9,6 +9,7 @@
 ghost use Rattle.std.specs.Prelude.{◌≡◌, List, ℕ, ◌*◌, length};
 ghost use Rattle.cut.specs.Cutter.{cutter_answer, cutter_buffer};
 ghost use Rattle.fault.specs.Reading.{reading_of, dead_at, error_at, options_of};
+ghost use Rattle.fault.specs.Section.{SectionOf};
 ghost use Rattle.fault.specs.Writing.{writing_of, buffer_of};
 ghost use Rattle.state.specs.Held.{held_at};
 ghost use Rattle.rules.specs.calls.Alive.{alive_answer};
@@ -148,6 +149,8 @@ pub fn cutter(given: Given, message: &[u8], u: u16, piece: u8, buffer: &mut [u8]
 pub fn read_section(s: &[u8]) -> Report
     ensures answer { result ≡ reading_of s.now }
     ensures meets { ReadMeets s.now result }
+    // What is read is exactly the octets of sections within the rules.
+    ensures section { (result.number ≡ 0 → SectionOf s.now) × (SectionOf s.now → result.number ≡ 0) }
 {
     reading::read_section(s)
 }

@@ -24,7 +24,7 @@ abbrev pub Free : Version → Number → Type 0
 Free v s = (v.0 ≡ 0) × (s.0 ≡ 1)
 
 -- The four rules as they are printed, "in this order": each applies where none before it does. The check says this and
--- nothing else (`says-check`, `says-only`).
+-- nothing else (`says_check`, `says_only`).
 pub data Says (n1 : ℕ) (rv : Version) (r : Number) (v : Version) (s : Number) : Verdict → Type 0 where
   rule_1 : Free v s → Says n1 rv r v s Unchecked
   rule_2 : ¬ (Free v s) → rv.0 ≡ 0 → Says n1 rv r v s First

@@ -32,7 +32,7 @@ skipped r s = remainder s.0 (r.0 + 1)
 abbrev pub half : ℕ
 half = 1073741823
 
--- a is newer than b, and b older than a. Callers use its law, `one-order`. What is newer than a newer number need not be
--- newer (`not-transitive`).
+-- a is newer than b, and b older than a. Callers use its law, `one_order`. What is newer than a newer number need not be
+-- newer (`not_transitive`).
 unfoldable pub newer : Number → Number → Bool
 newer a b = leb 1 (remainder a.0 b.0) && leb (remainder a.0 b.0) half

@@ -1,9 +1,8 @@
 // The maintenance tally: "one record of the caller's, counted up where it stands", in a thin layer above the message
 // call.
 //
-// The record is lent by `&mut`, so `message` is proved by a walk by hand. All the work is in functions that need none:
-// the call is the receiver's, and the counting is `counted`, by value. Any record, any state, any storage and any
-// octets may come.
+// `message` does nothing but call: the call is the receiver's, and the counting is `counted`, by value. Any record, any
+// state, any storage and any octets may come.
 #![tactic(auto)]
 
 ghost use Rattle.std.specs.Prelude.{◌≡◌, ◌+◌, length};

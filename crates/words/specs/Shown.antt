@@ -1,5 +1,5 @@
 -- For the contract of `sender` alone: a sender's words in fields of the code's widths, whatever they hold. Of the words of a
--- sender within its limits nothing is lost by that: it is what is looked at of the sender (`shown-seen`).
+-- sender within its limits nothing is lost by that: it is what is looked at of the sender (`shown_seen`).
 use Rattle.std.specs.Prelude.{◌/◌, ◌%◌, cond}
 use Rattle.state.specs.declared.Heard.{Heard}
 use Rattle.state.specs.declared.Sender.{Sender}

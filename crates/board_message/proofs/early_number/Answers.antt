@@ -26,5 +26,5 @@ pub returns : goal.returns
 unfolding first head_of
 returns c =
     let room = rw c.at.ensures at (eq-eqb _ _ c.if-room-count.false) in
-    let length = rw c.read_bsize.ensures at c.if-size-read_bsize.false in
-    simp (sym c.within.ensures ∙ c.if-not-within.false, room, length)
+    let right = rw c.read_bsize.ensures at c.if-size-read_bsize.false in
+    simp (sym c.within.ensures ∙ c.if-not-within.false, room, right)

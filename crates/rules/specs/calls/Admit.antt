@@ -132,7 +132,7 @@ sender_after n1 clock s h =
     cond (fills s h) (closed s (last_by (verdict_of n1 s h) s h)) (opened s (message_after clock s h))
 
 -- "pieces then held for the PDU's sender": the number kept. "How many pieces are held is the count of ones in the map":
--- so it is in every record within its limits (`kept-ones`).
+-- so it is in every record within its limits (`kept_ones`).
 unfoldable pub held_after : Sender → Head → ℕ
 held_after s h = cond (fills s h) 0 (kept_after s h)
 
