@@ -1,8 +1,8 @@
 #!/usr/bin/env bash
 # Runs the proved program on a capture and prints its lines:  ./adp CAPTURE     (- is standard input)
 #
-# It is proved and built first where that is needed, and then runs as rt runs programs (tools/run). What is said on standard error is
-# about the building, and about the field in which a run ended with E.
+# It is proved and built first where that is needed (tools/build). What is said on standard error is about the building, and about the
+# field in which a run ended with E.
 set -eu
 as_called=$(dirname "${BASH_SOURCE[0]}")
 here=$(cd "$as_called" && pwd)
@@ -23,46 +23,6 @@ say() { printf 'adp: %s\n' "$*" >&2; }
 fail() {
     say "$2"
     exit "$1"
-}
-
-# ---- building
-
-# How many crates the program is made of: itself, and all that stand behind it in crates.txt.
-crates_behind() {
-    awk -F: -v name="$1" '
-        function walk(name, list, n, i) {
-            if (!(name in behind) || name in seen) return
-            seen[name] = 1
-            count++
-            n = split(behind[name], list, " ")
-            for (i = 1; i <= n; i++) walk(list[i])
-        }
-        /^[a-z]/ { behind[$1] = $2 }
-        END { walk(name); print count }
-    ' "$here/crates.txt"
-}
-
-# Says of each crate that it is proved, as soon as rt says so.
-tell_progress() {
-    local all count=0 line name
-    all=$(crates_behind capture)
-    while IFS= read -r line; do
-        [[ $line == 'rt: '*' proved ('* ]] || continue
-        count=$((count + 1))
-        name=${line#rt: }
-        say "${name%% *} proved ($count of $all)"
-    done
-}
-
-# Builds the program where it is missing, or older than what it is made of.
-build() {
-    local program=$here/target/bin/capture
-    [ ! -x "$program" ] || [ -n "$(find "$here/crates" "$here/crates.txt" -newer "$program" -print -quit)" ] || return 0
-    say 'proving and building (some minutes the first time)'
-    mkdir -p "$here/target"
-    (cd "$here" && rt check capture 2>&1 </dev/null) | tee "$here/target/adp.log" | tell_progress
-    [ "${PIPESTATUS[0]}" -eq 0 ] || fail 1 'it is not proved; target/adp.log has what rt said'
-    touch "$program" # rt leaves a program alone that what has changed does not touch
 }
 
 # ---- running
@@ -140,8 +100,7 @@ if [ "$1" != - ]; then
     [ ! -d "$1" ] || fail 2 "$1 is a folder, not a capture"
     [ -r "$1" ] || fail 2 "$1 cannot be read"
 fi
-command -v rt >/dev/null || fail 2 'rt, the Rattle toolchain, is not on the PATH'
-build
+"$here/tools/build" capture || fail $? 'the program is not built'
 
 room=$(mktemp -d)
 trap 'rm -rf "$room"' EXIT

@@ -28,8 +28,8 @@ fi
 libraries() {
     mkdir -p "$out"
     if [ -z "$nights" ]; then
-        rt staticlib bench_nights >"$out/staticlib.log" 2>&1 || fail "the library was not built: see $out/staticlib.log"
-        nights=target/staticlib/libbench_nights.a
+        tools/build bench_nights 2>"$out/nights.log" || fail "the library was not built: see $out/nights.log"
+        nights=crates/bench_nights/out/libbench_nights.a
     fi
     if [ -z "$archive" ]; then
         board/build >"$out/board.log" 2>&1 || fail "the archive was not built: see $out/board.log"

@@ -1,6 +1,6 @@
 /* The receiver and the cutter of ADP R3.0, and the fault section of its alive signals, for a board whose sockets are C;
- * C99 or C++. board/build makes the archive to link, target/staticlib/libboard.a; it needs memcpy and memmove from the
- * C library and nothing else. Numbers and words are those of docs/PROMISES.md.
+ * C99 or C++. board/build makes the archive to link, target/staticlib/libboard.a; it needs memcpy, memmove and memset
+ * from the C library and nothing else. Numbers and words are those of docs/PROMISES.md.
  *
  * The library has no globals, no heap and no threads: a call reads and writes only what is lent to it, and keeps
  * nothing of it. Calls on different states may run at the same time; calls on one state must not.
