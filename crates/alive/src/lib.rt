@@ -1,20 +1,23 @@
 // The alive call: who is alive, and who says that it leaves. One function holds the state; it copies one sender's
 // record out, and puts it back.
 //
-// It is total: it takes any state and any octets, and refuses with their number those outside the limits.
+// It is total: it takes any state and any octets, and refuses those outside the limits.
 #![tactic(auto)]
 
 ghost use Rattle.std.specs.Prelude.{◌≡◌, not, [], ◌∷◌};
-ghost use Rattle.rules.specs.calls.Alive.{alive_head_within, alive_within, fault_within, signal_rows, heard_by, alive_answer};
-ghost use Rattle.rules.specs.calls.First.{row, first};
+ghost use Rattle.refusal.specs.declared.Refusal.TheVariants as refusals;
+ghost use Rattle.rules.specs.calls.Alive.{alive_head_within, alive_within, fault_within, signal_rows, alive_answer};
+ghost use Rattle.rules.specs.calls.First.{row, checked};
+ghost use Rattle.alive.specs.Heard.{heard_in};
 
-use answers::{Call, Noted};
+use answers::Noted;
 use fault::reading::is_section;
 use header::codes::code_of;
 use header::{Head, common_within, length_outside, read_head};
 use octets::from;
+use refusal::Refusal;
 use signal::{Body, MOST, SIZE, group, read_body};
-use state::{Address, Heard, Receiver, Sender};
+use state::{Address, Heard, Listened, Receiver};
 
 pub fn alive(mut state: Receiver, packet: &[u8]) -> Noted
     ensures { result ≡ alive_answer state packet.now }
@@ -23,10 +26,9 @@ pub fn alive(mut state: Receiver, packet: &[u8]) -> Noted
     let body = read_body(packet);
     let look = state.look(Address::of(h));
     let at = look.at;
-    let number = signal_number(look.valid, state.count, at, packet, h, body);
-    if number != 0 {
+    if let Err(refusal) = check_signal(look.valid, state.count, at, packet, h, body) {
         return Noted {
-            call: Call::Refused(number),
+            call: Err(refusal),
             state,
         };
     }
@@ -34,39 +36,49 @@ pub fn alive(mut state: Receiver, packet: &[u8]) -> Noted
     let next = heard_by(s, state.clock, body);
     state.senders[at as usize] = next;
     Noted {
-        call: Call::Done,
+        call: Ok(()),
         state,
     }
 }
 
-// The first of 9, 12, 13, 14, 22 and 24 that applies, or 0.
-pub fn signal_number(valid: bool, count: u8, at: u8, packet: &[u8], h: Head, body: Body) -> u8
-    ensures { result ≡ first (signal_rows valid count at packet.now h body) }
+// The first of 9, 12, 13, 14, 22 and 24 that applies.
+pub fn check_signal(
+    valid: bool,
+    count: u8,
+    at: u8,
+    packet: &[u8],
+    h: Head,
+    body: Body,
+) -> Result<(), Refusal>
+    ensures { result ≡ checked (signal_rows valid count at packet.now h body) }
 {
     let size = packet.len();
     if !valid {
-        return 9;
+        return Err(Refusal::State);
     }
     if length_outside(SIZE, MOST, size, h) {
-        return 12;
+        return Err(Refusal::Length);
     }
     if !head_within(packet, h) {
-        return 13;
+        return Err(Refusal::Header);
     }
     if count <= at {
-        return 14;
+        return Err(Refusal::Sender);
     }
     if !signal_within(size, h, body) {
-        return 22;
+        return Err(Refusal::Alive);
     }
-    fault_number(packet)
+    check_fault(packet)
 }
 
-// 24, or 0 where nothing is left to refuse.
-fn fault_number(packet: &[u8]) -> u8
-    ensures { result ≡ first (row 24 (not (fault_within packet.now)) ∷ []) }
+fn check_fault(packet: &[u8]) -> Result<(), Refusal>
+    ensures { result ≡ checked (row refusals.Fault (not (fault_within packet.now)) ∷ []) }
 {
-    if fault_within(packet) { 0 } else { 24 }
+    if fault_within(packet) {
+        Ok(())
+    } else {
+        Err(Refusal::Fault)
+    }
 }
 
 // The fixed fields, PRI, MODE and the code; SEQ is not looked at.
@@ -100,16 +112,16 @@ fn fault_within(packet: &[u8]) -> bool
     is_section(from(packet, SIZE))
 }
 
-// The record of a sender that says that it is alive, or that it leaves.
-fn heard_by(s: Sender, clock: u64, body: Body) -> Sender
-    ensures { result ≡ heard_by clock s body }
+// What is left of a sender that says that it is alive, or that it leaves.
+pub fn heard_by<T: Listened>(x: T, clock: u64, body: Body) -> T
+    ensures { result ≡ heard_in T.heard_as clock x body }
 {
     if body.mode == 1 {
         let heard = Heard {
             stamp: clock,
             timeout: body.timeout,
         };
-        return s.with_heard(true, heard);
+        return x.with_heard(true, heard);
     }
-    s.with_heard(false, Heard::NONE)
+    x.with_heard(false, Heard::NONE)
 }

@@ -1,45 +1,44 @@
 -- What is told tells the answer: each answer is read back from its number and values, so no other is told alike.
 -- Assumes nothing.
-use Rattle.std.specs.Prelude.{ℕ, ◌≡◌, refl, cond, ◌≢◌, eqb}
+use Rattle.std.specs.Prelude.{ℕ, ◌≡◌, refl, cond, ◌≢◌, eqb, Some, None, Ok, Err}
 use Rattle.std.proofs.Common.{sym, ap, ◌∙◌, ⊎_elim, arith, ne_eqb}
+use Rattle.refusal.specs.declared.Refusal.{Refusal}
+use Rattle.refusal.specs.Numbers.{number_of}
+use Rattle.refusal.proofs.NumbersLaws.{nine_or_more, refusal_from, refusal_back, one_number}
 use Rattle.octets.specs.Split.{eq_or_ne}
 use Rattle.ring.specs.declared.Verdict.{Verdict}
 use Rattle.ring.specs.declared.Verdict.TheVariants.{Unchecked, First, Restart, Repeat, Next, Gap}
 use Rattle.ring.specs.Check.{verdict_number, verdict_skipped, verdict_age}
 use Rattle.state.specs.declared.Receiver.{Receiver}
 use Rattle.answers.specs.declared.Answer.{Answer}
-use Rattle.answers.specs.declared.Call.{Call}
-use Rattle.answers.specs.declared.Call.TheVariants as call
 use Rattle.answers.specs.declared.GroupAnswer.{GroupAnswer}
-use Rattle.answers.specs.declared.Missing.{Missing}
-use Rattle.answers.specs.declared.Missing.TheVariants as missing
 use Rattle.answers.specs.declared.Outcome.{Outcome}
 use Rattle.answers.specs.declared.Outcome.TheVariants as outcome
 use Rattle.answers.specs.declared.Where.{Where}
 use Rattle.answers.specs.declared.Where.TheVariants as lies
-use Rattle.answers.specs.Told.{RefusedAs, OutcomeTold, outcome_told, age_with, refusal, WhereTold, where_told, MessageTold, message_told, GroupTold, group_told, call_number, QuestionTold, question_told, OutcomeTells, CallTells, MissingTells}
+use Rattle.answers.specs.Told.{RefusedAs, OutcomeTold, outcome_told, age_with, refusal, WhereTold, where_told, MessageTold, message_told, GroupTold, group_told, Call, call_number, Missing, QuestionTold, question_told, OutcomeTells, CallTells, MissingTells}
 
 -- ---- a refusal's number is told by no other case
 
-pub refused_outcome : (o : Outcome) (k : ℕ) → RefusedAs (outcome_told o).number k → o ≡ outcome.Refused k (outcome_told o).age
-refused_outcome (outcome.Refused j age) k r = ap (λ (i : ℕ). outcome.Refused i age) r.0
-refused_outcome outcome.Stored k r = absurd (omega (arith, r.0, r.1))
-refused_outcome (outcome.Delivered v) k r = absurd (omega (arith, r.0, r.1))
+pub refused_outcome : (o : Outcome) (r : Refusal) → RefusedAs (outcome_told o).number (number_of r) → o ≡ outcome.Refused r (outcome_told o).age
+refused_outcome (outcome.Refused q age) r t = ap (λ (i : Refusal). outcome.Refused i age) (one_number q r t.0)
+refused_outcome outcome.Stored r t = absurd (omega (arith, t.0, t.1))
+refused_outcome (outcome.Delivered v) r t = absurd (omega (arith, t.0, t.1))
 
-pub refused_call : (c : Call) (k : ℕ) → RefusedAs (call_number c) k → c ≡ call.Refused k
-refused_call call.Done k r = absurd (omega (arith, r.0, r.1))
-refused_call (call.Refused j) k r = ap call.Refused r.0
+pub refused_call : (c : Call) (r : Refusal) → RefusedAs (call_number c) (number_of r) → c ≡ Err r
+refused_call (Ok x) r t = absurd (omega (arith, t.0, t.1))
+refused_call (Err q) r t = ap Err (one_number q r t.0)
 
-pub refused_missing : (m : Missing) (k : ℕ) → RefusedAs (question_told m).number k → m ≡ missing.Refused k
-refused_missing (missing.Refused j) k r = ap missing.Refused r.0
-refused_missing missing.NoneOpen k r = absurd (omega (arith, r.0, r.1))
-refused_missing (missing.Piece i c) k r = absurd (omega (arith, r.0, r.1))
+pub refused_missing : (m : Missing) (r : Refusal) → RefusedAs (question_told m).number (number_of r) → m ≡ Err r
+refused_missing (Err q) r t = ap Err (one_number q r t.0)
+refused_missing (Ok None) r t = absurd (omega (arith, t.0, t.1))
+refused_missing (Ok (Some m)) r t = absurd (omega (arith, t.0, t.1))
 
 -- ---- how old a repeat was
 
 -- Of a refusal with another number than 17 what the check says is not asked,
-pub refusal_plain : (k : ℕ) (v : Verdict) → k ≢ 17 → refusal k v ≡ outcome.Refused k 0
-refusal_plain k v other = rw (ne_eqb k 17 other)
+pub refusal_plain : (r : Refusal) (v : Verdict) → number_of r ≢ 17 → refusal r v ≡ outcome.Refused r 0
+refusal_plain r v other = rw (ne_eqb (number_of r) 17 other)
 
 -- so two have one age if the check says the same of them where 17 is given.
 pub age_same : (k : ℕ) (v u : Verdict) → (k ≡ 17 → v ≡ u) → age_with k v ≡ age_with k u
@@ -63,22 +62,29 @@ verdict_back (Gap k) = refl
 outcome_from : OutcomeTold → Outcome
 outcome_from t =
     cond (eqb t.number 0) outcome.Stored
-    (cond (eqb t.number 1) (outcome.Delivered (verdict_from t.verdict t.skipped t.age)) (outcome.Refused t.number t.age))
+    (cond (eqb t.number 1) (outcome.Delivered (verdict_from t.verdict t.skipped t.age)) (outcome.Refused (refusal_from t.number) t.age))
 
-outcome_back : (o : Outcome) → OutcomeTells o → outcome_from (outcome_told o) ≡ o
+outcome_back : (o : Outcome) → outcome_from (outcome_told o) ≡ o
 unfolding outcome_from
-outcome_back (outcome.Refused k age) t = rw (ne_eqb k 0 (λ z. omega (arith, t)), ne_eqb k 1 (λ z. omega (arith, t)))
-outcome_back outcome.Stored t = refl
-outcome_back (outcome.Delivered v) t = ap outcome.Delivered (verdict_back v)
+outcome_back (outcome.Refused r age) =
+    rw (ne_eqb (number_of r) 0 (λ z. omega (arith, z, nine_or_more r)), ne_eqb (number_of r) 1 (λ z. omega (arith, z, nine_or_more r)), refusal_back r)
+outcome_back outcome.Stored = refl
+outcome_back (outcome.Delivered v) = ap outcome.Delivered (verdict_back v)
 
-pub one_outcome : (a b : Outcome) → OutcomeTells a → OutcomeTells b → outcome_told a ≡ outcome_told b → a ≡ b
-one_outcome a b s t e = sym (outcome_back a s) ∙ ap outcome_from e ∙ outcome_back b t
+pub one_outcome : (a b : Outcome) → outcome_told a ≡ outcome_told b → a ≡ b
+one_outcome a b e = sym (outcome_back a) ∙ ap outcome_from e ∙ outcome_back b
 
 -- "1 delivered"
-pub delivered_outcome : (o : Outcome) → OutcomeTells o → (outcome_told o).number ≡ 1 → (v : Verdict) × (o ≡ outcome.Delivered v)
-delivered_outcome (outcome.Refused k age) t e = absurd (omega (arith, t, e))
-delivered_outcome outcome.Stored t e = absurd (omega (arith, e))
-delivered_outcome (outcome.Delivered v) t e = (v, refl)
+pub delivered_outcome : (o : Outcome) → (outcome_told o).number ≡ 1 → (v : Verdict) × (o ≡ outcome.Delivered v)
+delivered_outcome (outcome.Refused r age) e = absurd (omega (arith, nine_or_more r, e))
+delivered_outcome outcome.Stored e = absurd (omega (arith, e))
+delivered_outcome (outcome.Delivered v) e = (v, refl)
+
+-- Each tells so.
+pub outcome_tells : (o : Outcome) → OutcomeTells o
+outcome_tells (outcome.Refused r age) = nine_or_more r
+outcome_tells outcome.Stored = tt
+outcome_tells (outcome.Delivered v) = tt
 
 -- ---- the message call's answer, read back
 
@@ -100,47 +106,55 @@ answer_from t w = record {
   state = w;
 }
 
-answer_back : (a : Answer) → OutcomeTells a.outcome → answer_from (message_told a) a.state ≡ a
+answer_back : (a : Answer) → answer_from (message_told a) a.state ≡ a
 unfolding answer_from
-answer_back a t = rw (outcome_back a.outcome t, where_back a.lies)
+answer_back a = rw (outcome_back a.outcome, where_back a.lies)
 
 -- With the state, all of it is told.
-pub one_answer : (a b : Answer) → OutcomeTells a.outcome → OutcomeTells b.outcome → message_told a ≡ message_told b → a.state ≡ b.state → a ≡ b
-one_answer a b s t e f = sym (answer_back a s) ∙ rw (e, f) (answer_back b t)
+pub one_answer : (a b : Answer) → message_told a ≡ message_told b → a.state ≡ b.state → a ≡ b
+one_answer a b e f = sym (answer_back a) ∙ rw (e, f) (answer_back b)
 
 -- ---- the multicast call's answer, read back
 
 group_from : GroupTold → GroupAnswer
 group_from t = record { outcome = outcome_from t.outcome; lies = where_from t.lies }
 
-group_back : (a : GroupAnswer) → OutcomeTells a.outcome → group_from (group_told a) ≡ a
+group_back : (a : GroupAnswer) → group_from (group_told a) ≡ a
 unfolding group_from
-group_back a t = rw (outcome_back a.outcome t, where_back a.lies)
+group_back a = rw (outcome_back a.outcome, where_back a.lies)
 
-pub one_group : (a b : GroupAnswer) → OutcomeTells a.outcome → OutcomeTells b.outcome → group_told a ≡ group_told b → a ≡ b
-one_group a b s t e = sym (group_back a s) ∙ ap group_from e ∙ group_back b t
+pub one_group : (a b : GroupAnswer) → group_told a ≡ group_told b → a ≡ b
+one_group a b e = sym (group_back a) ∙ ap group_from e ∙ group_back b
 
 -- ---- the other calls
 
 call_from : ℕ → Call
-call_from k = cond (eqb k 0) call.Done (call.Refused k)
+call_from k = cond (eqb k 0) (Ok tt) (Err (refusal_from k))
 
-call_back : (c : Call) → CallTells c → call_from (call_number c) ≡ c
+call_back : (c : Call) → call_from (call_number c) ≡ c
 unfolding call_from
-call_back call.Done t = refl
-call_back (call.Refused k) t = rw (ne_eqb k 0 (λ z. omega (arith, t)))
+call_back (Ok x) = refl
+call_back (Err r) = rw (ne_eqb (number_of r) 0 (λ z. omega (arith, z, nine_or_more r)), refusal_back r)
 
-pub one_call : (a b : Call) → CallTells a → CallTells b → call_number a ≡ call_number b → a ≡ b
-one_call a b s t e = sym (call_back a s) ∙ ap call_from e ∙ call_back b t
+pub one_call : (a b : Call) → call_number a ≡ call_number b → a ≡ b
+one_call a b e = sym (call_back a) ∙ ap call_from e ∙ call_back b
+
+pub call_tells : (c : Call) → CallTells c
+call_tells (Ok x) = tt
+call_tells (Err r) = nine_or_more r
 
 missing_from : QuestionTold → Missing
-missing_from t = cond (eqb t.number 0) (cond t.«open» (missing.Piece t.sender t.piece) missing.NoneOpen) (missing.Refused t.number)
+missing_from t = cond (eqb t.number 0) (Ok (cond t.«open» (Some (record { sender = t.sender; piece = t.piece })) None)) (Err (refusal_from t.number))
 
-missing_back : (m : Missing) → MissingTells m → missing_from (question_told m) ≡ m
+missing_back : (m : Missing) → missing_from (question_told m) ≡ m
 unfolding missing_from
-missing_back (missing.Refused k) t = rw (ne_eqb k 0 (λ z. omega (arith, t)))
-missing_back missing.NoneOpen t = refl
-missing_back (missing.Piece i c) t = refl
+missing_back (Err r) = rw (ne_eqb (number_of r) 0 (λ z. omega (arith, z, nine_or_more r)), refusal_back r)
+missing_back (Ok None) = refl
+missing_back (Ok (Some m)) = refl
 
-pub one_missing : (a b : Missing) → MissingTells a → MissingTells b → question_told a ≡ question_told b → a ≡ b
-one_missing a b s t e = sym (missing_back a s) ∙ ap missing_from e ∙ missing_back b t
+pub one_missing : (a b : Missing) → question_told a ≡ question_told b → a ≡ b
+one_missing a b e = sym (missing_back a) ∙ ap missing_from e ∙ missing_back b
+
+pub missing_tells : (m : Missing) → MissingTells m
+missing_tells (Ok m) = tt
+missing_tells (Err r) = nine_or_more r

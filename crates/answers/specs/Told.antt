@@ -1,14 +1,14 @@
 -- "If an answer is an enum, a definition lists this paper's number and values for each of its cases": one for each
 -- call, but the cutter's, which stands beside it in `cut`.
-use Rattle.std.specs.Prelude.{ℕ, ◌≤◌, ◌≡◌, Bool, true, false, cond, eqb}
+use Rattle.std.specs.Prelude.{ℕ, ◌≤◌, ◌≡◌, Bool, true, false, cond, eqb, Option, Some, None, Result, Ok, Err}
+use Rattle.refusal.specs.declared.Refusal.{Refusal}
+use Rattle.refusal.specs.Numbers.{number_of, number_in}
 use Rattle.ring.specs.declared.Verdict.{Verdict}
 use Rattle.ring.specs.Check.{verdict_number, verdict_skipped, verdict_age}
 use Rattle.answers.specs.declared.Answer.{Answer}
-use Rattle.answers.specs.declared.Call.{Call}
-use Rattle.answers.specs.declared.Call.TheVariants as call
+use Rattle.answers.specs.declared.Asked.{Asked}
 use Rattle.answers.specs.declared.GroupAnswer.{GroupAnswer}
-use Rattle.answers.specs.declared.Missing.{Missing}
-use Rattle.answers.specs.declared.Missing.TheVariants as missing
+use Rattle.answers.specs.declared.MissingPiece.{MissingPiece}
 use Rattle.answers.specs.declared.Outcome.{Outcome}
 use Rattle.answers.specs.declared.Outcome.TheVariants as outcome
 use Rattle.answers.specs.declared.Ticked.{Ticked}
@@ -46,7 +46,7 @@ delivered_as v = record { number = 1; verdict = verdict_number v; skipped = verd
 
 -- "0 stored …; 1 delivered", and for a refusal its number.
 abbrev pub outcome_told : Outcome → OutcomeTold
-outcome_told (outcome.Refused k age) = not_delivered k age
+outcome_told (outcome.Refused r age) = not_delivered (number_of r) age
 outcome_told outcome.Stored = not_delivered 0 0
 outcome_told (outcome.Delivered v) = delivered_as v
 
@@ -55,21 +55,27 @@ outcome_told (outcome.Delivered v) = delivered_as v
 abbrev pub age_with : ℕ → Verdict → ℕ
 age_with k v = cond (eqb k 17) (verdict_age v) 0
 
-abbrev pub refusal : ℕ → Verdict → Outcome
-refusal k v = outcome.Refused k (age_with k v)
+abbrev pub refusal : Refusal → Verdict → Outcome
+refusal r v = outcome.Refused r (age_with (number_of r) v)
 
 -- What is delivered has a verdict.
 abbrev pub HasVerdict : OutcomeTold → Type 0
 HasVerdict t = t.number ≡ 1 → 1 ≤ t.verdict
 
+-- Why it was refused, if it was.
+abbrev pub refused_by : Outcome → Option Refusal
+refused_by (outcome.Refused r age) = Some r
+refused_by outcome.Stored = None
+refused_by (outcome.Delivered v) = None
+
 -- The number of a refusal, 0 where there is none.
 abbrev pub refused_number : Outcome → ℕ
-refused_number (outcome.Refused k age) = k
+refused_number (outcome.Refused r age) = number_of r
 refused_number outcome.Stored = 0
 refused_number (outcome.Delivered v) = 0
 
 abbrev pub outcome_refused : Outcome → Bool
-outcome_refused (outcome.Refused k age) = true
+outcome_refused (outcome.Refused r age) = true
 outcome_refused outcome.Stored = false
 outcome_refused (outcome.Delivered v) = false
 
@@ -138,10 +144,13 @@ group_refused k age = record { outcome = not_delivered k age; lies = nothing_han
 
 -- ---- setup and the alive call: "S answer", "A answer"
 
+-- What became of a call that takes no message.
+abbrev pub Call : Type 0
+Call = Result (Unit {0}) Refusal
+
 -- "0 stored, done or written"
 abbrev pub call_number : Call → ℕ
-call_number call.Done = 0
-call_number (call.Refused k) = k
+call_number c = number_in c
 
 -- ---- the clock call: "C answer, dropped map, dead map"
 
@@ -169,24 +178,31 @@ pub record QuestionTold : Type 0 where
 abbrev pub none_open : ℕ → QuestionTold
 none_open k = record { number = k; «open» = false; sender = 0; piece = 0 }
 
+-- Nothing is missing where no message is open.
+abbrev pub Missing : Type 0
+Missing = Result (Option MissingPiece) Refusal
+
 abbrev pub question_told : Missing → QuestionTold
-question_told (missing.Refused k) = none_open k
-question_told missing.NoneOpen = none_open 0
-question_told (missing.Piece i c) = record { number = 0; «open» = true; sender = i; piece = c }
+question_told (Err r) = none_open (number_of r)
+question_told (Ok None) = none_open 0
+question_told (Ok (Some m)) = record { number = 0; «open» = true; sender = m.sender; piece = m.piece }
+
+-- The same as the code has it.
+abbrev pub asked_of : Missing → Asked
+asked_of a = record { number = (question_told a).number; «open» = (question_told a).«open»; sender = (question_told a).sender; piece = (question_told a).piece }
 
 -- ---- what the numbers tell
 
 -- A refusal has a refusal's number. No two such answers are told alike (ToldLaws).
 abbrev pub OutcomeTells : Outcome → Type 0
-OutcomeTells (outcome.Refused k age) = least_refusal ≤ k
+OutcomeTells (outcome.Refused r age) = least_refusal ≤ number_of r
 OutcomeTells outcome.Stored = Unit {0}
 OutcomeTells (outcome.Delivered v) = Unit {0}
 
 abbrev pub CallTells : Call → Type 0
-CallTells call.Done = Unit {0}
-CallTells (call.Refused k) = least_refusal ≤ k
+CallTells (Ok x) = Unit {0}
+CallTells (Err r) = least_refusal ≤ number_of r
 
 abbrev pub MissingTells : Missing → Type 0
-MissingTells (missing.Refused k) = least_refusal ≤ k
-MissingTells missing.NoneOpen = Unit {0}
-MissingTells (missing.Piece i c) = Unit {0}
+MissingTells (Err r) = least_refusal ≤ number_of r
+MissingTells (Ok m) = Unit {0}

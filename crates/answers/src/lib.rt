@@ -3,17 +3,18 @@
 #![tactic(auto)]
 
 ghost use Rattle.std.specs.Prelude.{◌≡◌};
-ghost use Rattle.answers.specs.Told.{outcome_told, refused_number, call_number, question_told};
+ghost use Rattle.answers.specs.Told.{outcome_told, refused_by, question_told, asked_of};
 
 use groups::Groups;
+use refusal::{Refusal, number_in};
 use ring::{Number, Verdict, Version};
 use state::{Address, Receiver, Sender};
 
 // What became of a packet.
 #[derive(Clone, Copy)]
 pub enum Outcome {
-    // with 01's number, 9 or more; with 17 how far back the number lies, otherwise 0
-    Refused { number: u8, age: u32 },
+    // with `Refusal::Repeat` how far back the number lies, otherwise 0
+    Refused { refusal: Refusal, age: u32 },
     Stored,
     Delivered(Verdict),
 }
@@ -23,20 +24,19 @@ impl Outcome {
         ensures { result ≡ (outcome_told self).number }
     {
         match self {
-            Outcome::Refused { number, age: _ } => number,
+            Outcome::Refused { refusal, .. } => refusal.number(),
             Outcome::Stored => 0,
             Outcome::Delivered(_) => 1,
         }
     }
 
-    // The number of a refusal, 0 where there is none.
-    pub fn refusal(self) -> u8
-        ensures { result ≡ refused_number self }
+    // Why it was refused, if it was.
+    pub fn refusal(self) -> Option<Refusal>
+        ensures { result ≡ refused_by self }
     {
         match self {
-            Outcome::Refused { number, age: _ } => number,
-            Outcome::Stored => 0,
-            Outcome::Delivered(_) => 0,
+            Outcome::Refused { refusal, .. } => Some(refusal),
+            _ => None,
         }
     }
 
@@ -45,9 +45,8 @@ impl Outcome {
         ensures { result ≡ (outcome_told self).verdict }
     {
         match self {
-            Outcome::Refused { number: _, age: _ } => 0,
-            Outcome::Stored => 0,
             Outcome::Delivered(verdict) => verdict.printed(),
+            _ => 0,
         }
     }
 
@@ -56,7 +55,7 @@ impl Outcome {
         ensures { result ≡ (outcome_told self).age }
     {
         match self {
-            Outcome::Refused { number: _, age } => age,
+            Outcome::Refused { age, .. } => age,
             Outcome::Stored => 0,
             Outcome::Delivered(verdict) => verdict.age(),
         }
@@ -67,15 +66,14 @@ impl Outcome {
         ensures { result ≡ (outcome_told self).skipped }
     {
         match self {
-            Outcome::Refused { number: _, age: _ } => 0,
-            Outcome::Stored => 0,
             Outcome::Delivered(verdict) => verdict.skipped(),
+            _ => 0,
         }
     }
 }
 
-// Where a delivered message lies.
-#[derive(Clone, Copy)]
+// Where a delivered message lies. Three cases that are told apart in what is printed, so no Option.
+#[derive(Clone, Copy, PartialEq, Eq, Debug)]
 pub enum Where {
     Nothing,
     // behind the header of the packet
@@ -84,7 +82,7 @@ pub enum Where {
     Storage { start: usize, length: usize },
 }
 
-// The message that was dropped to make room; both 0 if none was.
+// The message that was dropped to make room. No Option: 01 answers "both 0 if none".
 #[derive(Clone, Copy)]
 pub struct Dropped {
     pub version: Version,
@@ -149,102 +147,79 @@ pub struct Setup {
     pub groups: Groups,
 }
 
-// What became of a call that takes no message.
-#[derive(Clone, Copy)]
-pub enum Call {
-    Done,
-    // with 01's number, 9 or more
-    Refused(u8),
-}
-
-impl Call {
-    pub fn number(self) -> u8
-        ensures { result ≡ call_number self }
-    {
-        match self {
-            Call::Done => 0,
-            Call::Refused(number) => number,
-        }
-    }
-}
-
-// What setup answers.
+// What setup answers. The state stands beside the refusal: a refused setup answers the empty one.
 #[derive(Clone, Copy)]
 pub struct Started {
-    pub call: Call,
+    pub call: Result<(), Refusal>,
     pub state: Receiver,
 }
 
-// What the alive call answers.
+// What the alive call answers. The state stands beside the refusal: a refused call hands back the one it was given.
 #[derive(Clone, Copy)]
 pub struct Noted {
-    pub call: Call,
+    pub call: Result<(), Refusal>,
     pub state: Receiver,
 }
 
-// What the question answers.
-#[derive(Clone, Copy)]
-pub enum Missing {
-    // with 01's number, 9 or more
-    Refused(u8),
-    NoneOpen,
-    // the sender's place in the table, from 0, and its lowest missing piece, from 1
-    Piece { sender: u8, piece: u8 },
+// What is missing of an open message, for the question: the sender's place in the table, from 0, and its lowest missing
+// piece, from 1.
+#[derive(Clone, Copy, PartialEq, Eq, Debug)]
+pub struct MissingPiece {
+    pub sender: u8,
+    pub piece: u8,
 }
 
-impl Missing {
-    pub fn number(self) -> u8
-        ensures { result ≡ (question_told self).number }
-    {
-        match self {
-            Missing::Refused(number) => number,
-            Missing::NoneOpen => 0,
-            Missing::Piece {
-                sender: _,
-                piece: _,
-            } => 0,
-        }
-    }
+// The question's answer as it is told: where no message is open, sender and piece are 0.
+#[derive(Clone, Copy, PartialEq, Eq, Debug)]
+pub struct Asked {
+    pub number: u8,
+    pub open: bool,
+    pub sender: u8,
+    pub piece: u8,
+}
 
-    pub fn is_open(self) -> bool
-        ensures { result ≡ (question_told self).«open» }
+impl Asked {
+    pub fn of(answer: Result<Option<MissingPiece>, Refusal>) -> Asked
+        ensures { result ≡ asked_of answer }
     {
-        match self {
-            Missing::Refused(_) => false,
-            Missing::NoneOpen => false,
-            Missing::Piece {
-                sender: _,
-                piece: _,
-            } => true,
-        }
-    }
-
-    // 0 where none is open.
-    pub fn sender(self) -> u8
-        ensures { result ≡ (question_told self).sender }
-    {
-        match self {
-            Missing::Refused(_) => 0,
-            Missing::NoneOpen => 0,
-            Missing::Piece { sender, piece: _ } => sender,
-        }
-    }
-
-    pub fn piece(self) -> u8
-        ensures { result ≡ (question_told self).piece }
-    {
-        match self {
-            Missing::Refused(_) => 0,
-            Missing::NoneOpen => 0,
-            Missing::Piece { sender: _, piece } => piece,
+        Asked {
+            number: number_in(answer),
+            open: is_open(answer),
+            sender: sender_in(answer),
+            piece: piece_in(answer),
         }
     }
 }
 
-// What the clock call answers: which messages were dropped and which senders died, first sender lowest.
+fn is_open(answer: Result<Option<MissingPiece>, Refusal>) -> bool
+    ensures { result ≡ (question_told answer).«open» }
+{
+    matches!(answer, Ok(Some(_)))
+}
+
+fn sender_in(answer: Result<Option<MissingPiece>, Refusal>) -> u8
+    ensures { result ≡ (question_told answer).sender }
+{
+    match answer {
+        Ok(Some(missing)) => missing.sender,
+        _ => 0,
+    }
+}
+
+fn piece_in(answer: Result<Option<MissingPiece>, Refusal>) -> u8
+    ensures { result ≡ (question_told answer).piece }
+{
+    match answer {
+        Ok(Some(missing)) => missing.piece,
+        _ => 0,
+    }
+}
+
+// What the clock call answers: which messages were dropped and which senders died, first sender lowest. The state
+// stands beside the refusal: a refused call hands back the one it was given.
 #[derive(Clone, Copy)]
 pub struct Ticked {
-    pub call: Call,
+    pub call: Result<(), Refusal>,
     pub dropped: u16,
     pub dead: u16,
     pub state: Receiver,

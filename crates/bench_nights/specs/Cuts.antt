@@ -1,8 +1,8 @@
 -- The pieces of a message cut one after the other into the same buffer, and a header by itself.
-use Rattle.std.specs.Prelude.{ℕ, zero, suc, ◌+◌, ◌%◌, ◌^◌, List, length}
+use Rattle.std.specs.Prelude.{ℕ, zero, suc, ◌+◌, ◌%◌, ◌^◌, List, Result, length}
+use Rattle.refusal.specs.declared.Refusal.{Refusal}
 use Rattle.header.specs.declared.Given.{Given}
 use Rattle.header.specs.declared.Head.{Head}
-use Rattle.cut.specs.declared.cutter.Cutting.{Cutting}
 use Rattle.cut.specs.Cutter.{cutter_answer, cutter_buffer, cutter_told}
 use Rattle.promised.specs.Needed.{headed}
 
@@ -19,7 +19,7 @@ unfoldable pub cuts_buffer : Given → List ℕ → ℕ → List ℕ → ℕ →
 cuts_buffer g m u b zero = b
 cuts_buffer g m u b (suc c) = cutter_buffer g m u (suc c) (cuts_buffer g m u b c)
 
-abbrev pub cut_sum : ℕ → Cutting → ℕ
+abbrev pub cut_sum : ℕ → Result ℕ Refusal → ℕ
 cut_sum sum a = (sum + ((cutter_told a).number + (cutter_told a).length)) % 2 ^ 64
 
 -- The sum of what was answered for them.

@@ -1,9 +1,10 @@
 -- A night: a receiver is set up and given packets, one behind the other. What it does to state and storage is `after`
 -- of `rules`.
-use Rattle.std.specs.Prelude.{ℕ, zero, suc, ◌+◌, ◌*◌, ◌%◌, ◌^◌, List, [], ◌∷◌, length, take, drop, replicate, slice_set}
+use Rattle.std.specs.Prelude.{ℕ, ◌+◌, ◌*◌, ◌%◌, ◌^◌, List, [], ◌∷◌, length, take, drop, map}
+use Rattle.std.specs.List.{range_with_len}
 use Rattle.groups.specs.Groups.{no_groups}
 use Rattle.state.specs.declared.Address.{Address}
-use Rattle.state.specs.State.{senders_most, no_address}
+use Rattle.state.specs.State.{senders_most}
 use Rattle.answers.specs.declared.Answer.{Answer}
 use Rattle.answers.specs.declared.Outcome.{Outcome}
 use Rattle.answers.specs.declared.Setup.{Setup}
@@ -18,14 +19,13 @@ use Rattle.rules.specs.calls.Setup.{setup_answer}
 abbrev pub node_of : ℕ → Address
 node_of k = record { field = record { 0 = 1 }; node = record { 0 = k } }
 
--- The first k of the places hold the nodes 1 to k.
-unfoldable pub nodes_to : ℕ → List Address
-nodes_to zero = replicate senders_most no_address
-nodes_to (suc k) = slice_set (nodes_to k) k (node_of (suc k))
+-- The nodes 1 to 16, one in each place.
+abbrev pub nodes : List Address
+nodes = map (λ i. node_of (i + 1)) (range_with_len 0 senders_most)
 
 -- A node whose senders are the nodes 1 to `count` of data field 1.
 abbrev pub board_of : ℕ → ℕ → ℕ → ℕ → Setup
-board_of mode n1 t count = record { mode = mode; n1 = n1; t = t; count = count; senders = nodes_to senders_most; groups = no_groups }
+board_of mode n1 t count = record { mode = mode; n1 = n1; t = t; count = count; senders = nodes; groups = no_groups }
 
 unfoldable pub begun : Setup → List ℕ → World
 begun q storage = record { state = (setup_answer q).state; storage = storage }

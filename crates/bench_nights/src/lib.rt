@@ -1,31 +1,32 @@
 // Whole nights in one call, for the bench: a receiver is set up and given the packets that lie one behind the other in
-// a lent slice, behind them the maintenance page asks; a message is cut piece by piece; a header is written by itself. A
-// program in C lends the octets, and measures.
+// a lent slice, behind them the maintenance page asks; a message is cut piece by piece; a header is written by itself.
+// A program in C lends the octets, and measures.
 //
 // What is answered is one number made of all answers, so that none can be left out and two programs are quickly
 // compared.
 #![tactic(auto)]
 
 ghost use Rattle.std.specs.Prelude.{◌≡◌};
+ghost use Rattle.answers.specs.Told.{refused_number};
 ghost use Rattle.header.specs.Head.{headed};
-ghost use Rattle.state.specs.State.{senders_most};
 ghost use Rattle.rules.specs.pasts.Past.{after};
-ghost use Rattle.bench_nights.specs.Night.{nodes_to, board_of, begun, packets_by, summed, night_sum};
+ghost use Rattle.bench_nights.specs.Night.{nodes, board_of, begun, packets_by, summed, night_sum};
 ghost use Rattle.bench_nights.specs.Cuts.{given_of, head_for, cut_sum, cuts_sum, cuts_buffer};
 ghost use Rattle.bench_nights.specs.Pages.{held_sum};
 
 use answers::{Answer, Dropped, Outcome, Setup, Where};
-use cut::cutter::{Cutting, cutter};
+use cut::cutter::cutter;
 use groups::Groups;
 use header::codes::{DataField, Node};
 use header::{Cut, Given, Head, write_head};
 use octets::run;
 use receiver::message::message;
 use receiver::part::part;
+use refusal::{Refusal, number_in};
 use ring::{Number, Version};
 use setup::setup;
 use state::{Address, Receiver};
-use std::num::wrapping_add_u64;
+use std::array;
 
 // A night of a receiver with these settings and this many senders: packet after packet, each as long as its size says.
 #[unsafe(no_mangle)]
@@ -41,8 +42,7 @@ pub extern "C" fn adp_night(
     ensures answer { result ≡ night_sum 0 (begun (board_of mode n1 t senders) storage.old) (packets_by sizes.now packets.now) }
     ensures stored { storage.new ≡ (after (begun (board_of mode n1 t senders) storage.old) (packets_by sizes.now packets.now)).storage }
 {
-    let ended = night(mode, n1, t, senders, packets, sizes, storage);
-    ended.sum
+    night(mode, n1, t, senders, packets, sizes, storage).sum
 }
 
 // A night, and behind it the maintenance page, which asks of each of these places how many pieces are held.
@@ -60,9 +60,10 @@ pub extern "C" fn adp_pages(
     ensures answer { result ≡ held_sum 0 (after (begun (board_of mode n1 t senders) storage.old) (packets_by sizes.now packets.now)).state places.now }
     ensures stored { storage.new ≡ (after (begun (board_of mode n1 t senders) storage.old) (packets_by sizes.now packets.now)).storage }
 {
-    let ended = night(mode, n1, t, senders, packets, sizes, storage);
-    let state = ended.state;
-    page(state, places)
+    page(
+        night(mode, n1, t, senders, packets, sizes, storage).state,
+        places,
+    )
 }
 
 // The pieces 1 to last of a message, each written into the same buffer.
@@ -73,11 +74,8 @@ pub extern "C" fn adp_cuts(number: u32, message: &[u8], u: u16, last: u8, buffer
 {
     let given = given_of(number);
     let mut sum: u64 = 0;
-    let mut c: u8 = 0;
-    while c < last {
-        c += 1;
-        let cutting = cutter(given, message, u, c, buffer);
-        sum = with_cut(sum, cutting);
+    for c in 0..last {
+        sum = with_cut(sum, cutter(given, message, u, c + 1, buffer));
     }
     sum
 }
@@ -101,39 +99,30 @@ pub extern "C" fn adp_head(number: u32, ml: u32, bsize: u16, cbn: u8, tbn: u8, b
 
 // As many nodes as there are places, from 1 on, of data field 1.
 fn nodes() -> [Address; Receiver::PLACES]
-    ensures { result ≡ nodes_to senders_most }
+    ensures { result ≡ nodes }
 {
-    let mut nodes = [Address::NONE; Receiver::PLACES];
-    let mut i: u16 = 0;
-    while (i as usize) < Receiver::PLACES {
-        let number = i + 1;
-        let a = Address {
-            field: DataField(1),
-            node: Node(number),
-        };
-        nodes[i as usize] = a;
-        i += 1;
-    }
-    nodes
+    array::from_fn(|i| Address {
+        field: DataField(1),
+        node: Node(i as u16 + 1),
+    })
 }
 
 // A node whose senders are the nodes 1 to this many of data field 1.
 fn board(mode: u8, n1: u16, t: u32, count: u8) -> Setup
     ensures { result ≡ board_of mode n1 t count }
 {
-    let senders = nodes();
     Setup {
         mode,
         n1,
         t,
         count,
-        senders,
+        senders: nodes(),
         groups: Groups::NONE,
     }
 }
 
-// A state that no packet has come to, in an answer: from there each call takes it, and there it leaves it. In a local of
-// its own the state would be copied once more for each packet.
+// A state that no packet has come to, in an answer: from there each call takes it, and there it leaves it. In a local
+// of its own the state would be copied once more for each packet.
 fn unasked(state: Receiver) -> Answer
     ensures { result.state ≡ state }
 {
@@ -186,42 +175,50 @@ fn night(
     ensures left { result.state ≡ (after (begun (board_of mode n1 t senders) storage.old) (packets_by sizes.now packets.now)).state }
     ensures stored { storage.new ≡ (after (begun (board_of mode n1 t senders) storage.old) (packets_by sizes.now packets.now)).storage }
 {
-    let started = setup(board(mode, n1, t, senders));
-    let first = started.state;
-    let mut a = unasked(first);
+    let mut a = unasked(setup(board(mode, n1, t, senders)).state);
     let mut sum: u64 = 0;
     let mut at: usize = 0;
-    let mut i: usize = 0;
-    while i < sizes.len() {
-        let packet = run(packets, at, sizes[i] as usize);
-        let state = a.state;
-        a = message(state, storage, packet);
-        let outcome = a.outcome;
-        let lies = a.lies;
-        sum = with_answer(sum, outcome, a.held, part(lies, packet, storage).len());
+    for size in sizes {
+        let packet = run(packets, at, *size as usize);
+        a = message(a.state, storage, packet);
+        sum = with_answer(sum, a.outcome, a.held, part(a.lies, packet, storage).len());
         at += packet.len();
-        i += 1;
     }
-    let state = a.state;
-    Ended { sum, state }
+    Ended {
+        sum,
+        state: a.state,
+    }
 }
 
 // ---- one packet
 
-// The sum with one more answer in it: its number or its verdict, its age, the pieces held, and the length that was handed over.
+// The sum with one more answer in it: its number or its verdict, its age, the pieces held, and the length that was
+// handed over.
 fn with_answer(sum: u64, o: Outcome, held: u8, size: usize) -> u64
     ensures { result ≡ summed sum o held size }
 {
-    let answer = o.refusal() as u64 + o.verdict() as u64 + o.age() as u64 + (held as u64) * 256;
-    wrapping_add_u64(wrapping_add_u64(sum, answer), size as u64)
+    let answer = refused_number(o) as u64
+        + o.verdict() as u64
+        + o.age() as u64
+        + (held as u64) * 256;
+    sum.wrapping_add(answer).wrapping_add(size as u64)
+}
+
+// The number of a refusal, 0 where there is none.
+fn refused_number(o: Outcome) -> u8
+    ensures { result ≡ refused_number o }
+{
+    match o {
+        Outcome::Refused { refusal, .. } => refusal.number(),
+        _ => 0,
+    }
 }
 
 // The sum with one more answer of the cutter in it.
-fn with_cut(sum: u64, cutting: Cutting) -> u64
-    ensures { result ≡ cut_sum sum cutting }
+fn with_cut(sum: u64, cut: Result<u16, Refusal>) -> u64
+    ensures { result ≡ cut_sum sum cut }
 {
-    let answer = cutting.number() as u64 + cutting.length() as u64;
-    wrapping_add_u64(sum, answer)
+    sum.wrapping_add(number_in(cut) as u64 + cut.unwrap_or(0) as u64)
 }
 
 // ---- the page
@@ -230,12 +227,5 @@ fn with_cut(sum: u64, cutting: Cutting) -> u64
 fn page(state: Receiver, places: &[u8]) -> u64
     ensures { result ≡ held_sum 0 state places.now }
 {
-    let mut sum: u64 = 0;
-    let mut i: usize = 0;
-    while i < places.len() {
-        let held = state.held(places[i]);
-        sum = wrapping_add_u64(sum, held as u64);
-        i += 1;
-    }
-    sum
+    places.iter().fold(0, |sum, place| sum.wrapping_add(state.held(*place) as u64))
 }

@@ -23,7 +23,8 @@ use Rattle.answers.specs.declared.Outcome.TheVariants.{Refused, Stored, Delivere
 use Rattle.answers.specs.declared.Where.{Where}
 use Rattle.answers.specs.declared.Where.TheVariants.{Nothing, Packet, Storage}
 use Rattle.rules.specs.calls.Admit.{admitted}
-use Rattle.rules.specs.calls.Message.{area, message_number, message_answer, message_storage, storage_after, lies_at, where_by, taken, refused}
+use Rattle.rules.specs.calls.Message.{area, message_rows, message_number, message_answer, message_storage, storage_after, lies_at, where_by, taken, refused}
+use Rattle.rules.proofs.calls.FirstLaws.{checked_none, refusal_given, check_case}
 use Rattle.rules.proofs.calls.MessageLaws.{taken_facts}
 use Rattle.rules.specs.calls.Part.{part_of, stored_part}
 use Rattle.fault.specs.Places.{count_at, options_in}
@@ -54,16 +55,16 @@ in_storage packet storage start n h = record { is = rw (le-leb (start + n) (leng
 
 -- Any other outcome than a delivery hands over nothing.
 where_lies : (packet storage : List ℕ) (i : ℕ) (h : Head) (o : Outcome) → LiesIn (lies_at i h) packet storage → LiesIn (where_by o i h) packet storage
-where_lies packet storage i h (Refused k age) lie = refl
+where_lies packet storage i h (Refused r age) lie = refl
 where_lies packet storage i h Stored lie = refl
 where_lies packet storage i h (Delivered v) lie = lie
 
 module _ (w : Receiver) (storage packet : List ℕ) where
   same_room : length (message_storage w storage packet) ≡ length storage
   unfolding message_storage storage_after
-  same_room = cond_case (λ (s : List ℕ). length s ≡ length storage) (eqb (message_number w (length storage) packet) 0) _ storage
+  same_room = check_case (λ (s : List ℕ). length s ≡ length storage) (message_rows w (length storage) packet) _ (λ r. storage)
       (λ _. cond_case (λ (s : List ℕ). length s ≡ length storage) (eqb (head_of packet).cut.tbn 1) storage _ (λ _. refl) (λ _. length_laid storage _ _))
-      (λ _. refl)
+      (λ r _. refl)
 
   -- What the message call answers lies so.
   pub message_lies : LiesIn (message_answer w (length storage) packet).lies packet (message_storage w storage packet)
@@ -77,8 +78,10 @@ module _ (w : Receiver) (storage packet : List ℕ) where
       let lie = cond_case (λ (p : Where). LiesIn p packet (message_storage w storage packet)) (eqb h.cut.tbn 1) Packet (Storage (i * area) (message_length h.cut))
       (λ _. in_packet packet (message_storage w storage packet) facts.0.size_least)
       (λ _. in_storage packet (message_storage w storage packet) (i * area) (message_length h.cut) (omega (arith, same_room, facts.0.room_right, facts.0.registered, cut.big))) in
-      rw (eq-eqb (message_number w (length storage) packet) 0 none) (where_lies packet (message_storage w storage packet) i h (admitted w.n1 w.clock (sender_at w i) h).outcome lie))
-      (λ (ne : message_number w (length storage) packet ≢ 0). rw (ne_eqb (message_number w (length storage) packet) 0 ne))
+      rw (checked_none (message_rows w (length storage) packet) none) (where_lies packet (message_storage w storage packet) i h (admitted w.n1 w.clock (sender_at w i) h).outcome lie))
+      (λ (ne : message_number w (length storage) packet ≢ 0).
+      let given = refusal_given (message_rows w (length storage) packet) ne in
+      rw given.1.0)
       (eq_or_ne (message_number w (length storage) packet) 0)
 
 -- ---- the options of a fault section

@@ -6,23 +6,24 @@ use Rattle.std.proofs.lemmas.Bool.{lt-leb}
 use Rattle.octets.specs.Split.{true_or_false}
 use Rattle.answers.specs.declared.Outcome.{Outcome}
 use Rattle.answers.specs.declared.Outcome.TheVariants.{Refused, Stored, Delivered}
-use Rattle.answers.specs.Told.{outcome_told, outcome_refused, OutcomeTells}
-use Rattle.rules.proofs.calls.ExactlyLaws.{message_tells}
+use Rattle.answers.specs.Told.{outcome_told, outcome_refused}
+use Rattle.refusal.specs.Numbers.{number_of}
+use Rattle.refusal.proofs.NumbersLaws.{nine_or_more}
 use Rattle.rules.specs.calls.Message.{message_answer}
 use Rattle.tally.specs.Tally.{stopping, one_answer, one_refusal, counted}
 use Rattle.words.specs.Words.{word, is_state, state_in}
 use Rattle.board.specs.Calls.{message_for, outcome_for, tally_in, tally_words, tally_for}
 
 -- Which count grows is told by the answer's number.
-number_tells : (o : Outcome) → OutcomeTells o → leb (outcome_told o).number 1 ≡ not (outcome_refused o)
-number_tells (Refused k age) more = lt-leb k 1 (omega (arith, more))
-number_tells Stored more = refl
-number_tells (Delivered v) more = refl
+number_tells : (o : Outcome) → leb (outcome_told o).number 1 ≡ not (outcome_refused o)
+number_tells (Refused r age) = lt-leb (number_of r) 1 (omega (arith, nine_or_more r))
+number_tells Stored = refl
+number_tells (Delivered v) = refl
 
 told_by_lem : (l storage packet : List ℕ) → leb (message_for l (length storage) packet).number 1 ≡ not (outcome_refused (outcome_for l (length storage) packet))
 unfolding outcome_for message_for
 told_by_lem l storage packet = ⊎_elim
-    (λ (is : is_state l ≡ true). rw is (number_tells (message_answer (state_in l) (length storage) packet).outcome (message_tells (state_in l) storage packet)))
+    (λ (is : is_state l ≡ true). rw is (number_tells (message_answer (state_in l) (length storage) packet).outcome))
     (λ (not_so : is_state l ≡ false). rw not_so)
     (true_or_false (is_state l))
 

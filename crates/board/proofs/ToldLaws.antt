@@ -1,17 +1,19 @@
 -- C is told what the call by value tells, number by number; where delivered octets start and end stands in PartLaws.
 -- Assumes nothing.
-use Rattle.std.specs.Prelude.{ℕ, ◌≡◌, refl}
+use Rattle.std.specs.Prelude.{ℕ, ◌≡◌, refl, Result, Ok, Err}
+use Rattle.refusal.specs.declared.Refusal.{Refusal}
+use Rattle.refusal.specs.Numbers.{number_in}
 use Rattle.answers.specs.declared.Answer.{Answer}
-use Rattle.answers.specs.declared.Missing as by-value-missing
 use Rattle.answers.specs.declared.Ticked as by_value
+use Rattle.answers.specs.Told as by-value-missing
 use Rattle.answers.specs.Told.{WhereTold, where_told, MessageTold, message_told, ClockTold, clock_told, QuestionTold, question_told}
-use Rattle.fault.specs.declared.writing.Writing.{Writing}
+use Rattle.fault.specs.declared.reading.Report as by-value-report
 use Rattle.fault.specs.Writing.{WritingTold, writing_told}
 use Rattle.board.specs.declared.Told.{Told}
 use Rattle.board.specs.declared.Missing.{Missing}
 use Rattle.board.specs.declared.Ticked.{Ticked}
 use Rattle.board.specs.declared.Written.{Written}
-use Rattle.board.specs.Calls.{told_of, ticked_of, missing_of, written_of}
+use Rattle.board.specs.Calls.{told_of, ticked_of, missing_of, reported, written_of}
 
 -- ---- the message call
 
@@ -44,10 +46,16 @@ question_back t = record { number = t.number; «open» = t.«open»; sender = t.
 pub question_same : (a : by-value-missing.Missing) → question_back (missing_of a) ≡ question_told a
 question_same a = refl
 
+-- ---- reading a fault section
+
+pub report_same : (r : Result by-value-report.Report Refusal) → (reported r).number ≡ number_in r
+report_same (Ok r) = refl
+report_same (Err e) = refl
+
 -- ---- writing a fault section
 
 abbrev written_back : Written → WritingTold
 written_back t = record { number = t.number; length = t.length }
 
-pub written_same : (w : Writing) → written_back (written_of w) ≡ writing_told w
+pub written_same : (w : Result ℕ Refusal) → written_back (written_of w) ≡ writing_told w
 written_same w = refl

@@ -1,7 +1,10 @@
 -- What the calls for a board answer and leave: 01's numbers and values of what the same call answers by value, at the
 -- state that the lent words are. Words that are no state meet 9, and stay.
-use Rattle.std.specs.Prelude.{ℕ, ◌+◌, ◌-◌, false, cond, List, [], ◌∷◌, eqb, length, set}
+use Rattle.std.specs.Prelude.{ℕ, ◌+◌, ◌-◌, false, cond, List, [], ◌∷◌, Result, Ok, Err, eqb, length, replicate, set}
+use Rattle.refusal.specs.declared.Refusal.{Refusal}
+use Rattle.refusal.specs.Numbers.{number_of}
 use Rattle.header.specs.Places.{header_size}
+use Rattle.refusal.specs.declared.Refusal.TheVariants as refusals
 use Rattle.answers.specs.declared.Answer.{Answer}
 use Rattle.answers.specs.declared.Dropped.{Dropped}
 use Rattle.answers.specs.declared.GroupAnswer.{GroupAnswer}
@@ -10,12 +13,11 @@ use Rattle.answers.specs.declared.Outcome.TheVariants.{Refused}
 use Rattle.answers.specs.declared.Setup.{Setup}
 use Rattle.answers.specs.declared.Where.{Where}
 use Rattle.answers.specs.declared.Where.TheVariants.{Nothing, Packet, Storage}
-use Rattle.answers.specs.declared.Missing as by-value-missing
 use Rattle.answers.specs.declared.Ticked as by_value
+use Rattle.answers.specs.Told as by-value-missing
 use Rattle.answers.specs.Told.{outcome_told, outcome_refused, where_told, call_number, question_told}
-use Rattle.cut.specs.declared.cutter.Cutting as by-value-cutting
 use Rattle.cut.specs.Cutter.{cutter_told}
-use Rattle.fault.specs.declared.writing.Writing.{Writing}
+use Rattle.fault.specs.declared.reading.Report as by-value-report
 use Rattle.fault.specs.Places.{count_at}
 use Rattle.fault.specs.Reading.{options_of}
 use Rattle.fault.specs.Writing.{writing_told}
@@ -32,6 +34,7 @@ use Rattle.tally.specs.Tally.{stopping}
 use Rattle.words.specs.Words.{words_most, word, is_state, state_in, words_of}
 use Rattle.board.specs.declared.Cutting.{Cutting}
 use Rattle.board.specs.declared.Options.{Options}
+use Rattle.board.specs.declared.Report.{Report}
 use Rattle.board.specs.declared.Told.{Told}
 use Rattle.board.specs.declared.Missing.{Missing}
 use Rattle.board.specs.declared.Ticked.{Ticked}
@@ -98,7 +101,7 @@ message_for l room packet = cond (is_state l) (told_of (message_answer (state_in
 
 -- What the call would answer by value: the outcome that is counted.
 unfoldable pub outcome_for : List ℕ → ℕ → List ℕ → Outcome
-outcome_for l room packet = cond (is_state l) (message_answer (state_in l) room packet).outcome (Refused 9 0)
+outcome_for l room packet = cond (is_state l) (message_answer (state_in l) room packet).outcome (Refused refusals.State 0)
 
 unfoldable pub storage_for : List ℕ → List ℕ → List ℕ → List ℕ
 storage_for l storage packet = cond (is_state l) (message_storage (state_in l) storage packet) storage
@@ -150,16 +153,21 @@ held_for l i = held_at (state_in l) i
 
 -- ---- the cutter
 
-abbrev pub cutting_of : by-value-cutting.Cutting → Cutting
+abbrev pub cutting_of : Result ℕ Refusal → Cutting
 cutting_of c = record { number = (cutter_told c).number; length = (cutter_told c).length }
 
 -- ---- the fault section
+
+-- "counts and name by value"; 24 says nothing more.
+abbrev pub reported : Result by-value-report.Report Refusal → Report
+reported (Ok r) = record { number = 0; modules = r.modules; errors = r.errors; options = r.options; name = r.name }
+reported (Err e) = record { number = number_of e; modules = 0; errors = 0; options = 0; name = replicate 8 0 }
 
 -- "the options as a returned part": where they start, and how many octets they are.
 unfoldable pub options_for : List ℕ → Options
 options_for s = cond (eqb (length (options_of s)) 0) (record { start = 0; length = 0 }) (record { start = count_at s + 4; length = length (options_of s) })
 
-abbrev pub written_of : Writing → Written
+abbrev pub written_of : Result ℕ Refusal → Written
 written_of w = record { number = (writing_told w).number; length = (writing_told w).length }
 
 -- ---- the tally

@@ -49,6 +49,17 @@ pub struct Cutting {
     pub length: u16,
 }
 
+// What reading a fault section answers: all but the number is 0 on a refusal.
+#[repr(C)]
+#[derive(Clone, Copy)]
+pub struct Report {
+    pub number: u8,
+    pub modules: u32,
+    pub errors: u32,
+    pub options: u32,
+    pub name: [u8; 8],
+}
+
 // Where a section's options stand in it: `length` octets from `start` on, both 0 where there are none.
 #[repr(C)]
 #[derive(Clone, Copy)]
@@ -57,7 +68,7 @@ pub struct Options {
     pub length: usize,
 }
 
-// What writing a section answers: its length is 0 on a refusal.
+// What writing a section answers: its length is 0 on a refusal. The fields are those of Cutting, but C has two structs.
 #[repr(C)]
 #[derive(Clone, Copy)]
 pub struct Written {

@@ -1,12 +1,15 @@
 -- The alive call on words. Assumes nothing.
-use Rattle.std.specs.Prelude.{ℕ, ◌%◌, ◌<◌, ◌≡◌, refl, ◌≢◌, Bool, false, not, cond, List, eqb}
+use Rattle.std.specs.Prelude.{ℕ, ◌%◌, ◌<◌, ◌≡◌, refl, Bool, false, not, cond, List, eqb, Ok, Err}
 use Rattle.std.proofs.Common.{sym, ap, subst, ◌∙◌, ⊎_elim, arith}
 use Rattle.std.proofs.Math.Bool.{true}
 use Rattle.octets.proofs.NumberLaws.{number_bound}
 use Rattle.octets.specs.Number.{Octets}
 use Rattle.octets.specs.Run.{laid}
-use Rattle.octets.specs.Split.{eq_or_ne, true_or_false, cond_case}
+use Rattle.octets.specs.Split.{true_or_false, cond_case}
 use Rattle.header.specs.declared.Head.{Head}
+use Rattle.refusal.specs.declared.Refusal.{Refusal}
+use Rattle.refusal.specs.declared.Refusal.TheVariants as refusals
+use Rattle.refusal.specs.Numbers.{number_of}
 use Rattle.header.specs.Head.{head_of}
 use Rattle.signal.specs.declared.Body.{Body}
 use Rattle.signal.specs.Alive.{body_of}
@@ -20,8 +23,8 @@ use Rattle.answers.specs.declared.Noted.{Noted}
 use Rattle.answers.specs.Told.{call_number}
 use Rattle.rules.specs.calls.Alive.{signal_rows, heard_by, noted, not_noted, alive_answer}
 use Rattle.rules.proofs.calls.AliveLaws.{Heeded, signal_facts, signal_refused, signal_noted}
-use Rattle.rules.specs.calls.First.{first}
-use Rattle.rules.proofs.calls.FirstLaws.{first_here}
+use Rattle.rules.specs.calls.First.{Row, checked}
+use Rattle.rules.proofs.calls.FirstLaws.{none_checked, given_checked, ok_or_err, first_here}
 use Rattle.rules.specs.calls.Message.{with_sender}
 use Rattle.words.specs.declared.Record.{Record}
 use Rattle.words.specs.Words.{place, word, half, record_words, record_at, sender_of, fits, heard_as, is_state, state_in, left_by}
@@ -31,8 +34,8 @@ use Rattle.words_look.proofs.LookLaws.{Held}
 use Rattle.words_look.proofs.HeldLaws.{look_in_lem, look_out, look_so, count_octet, place_few, sender_here, own_fits}
 use Rattle.words.proofs.WrittenLaws.{left_same, put_written, put_state, put_is_state, Means, means_same, means_by}
 use Rattle.words.proofs.ChangedLaws.{heard_there, heard_fits}
+use Rattle.alive.specs.Heard.{heard_in}
 use Rattle.board.specs.Calls.{alive_for}
-use Rattle.board_alive.specs.private.Heard.{heard_words}
 
 -- What the call answered and left.
 abbrev pub Met : List ℕ → List ℕ → ℕ → List ℕ → Type 0
@@ -44,8 +47,8 @@ unfolding alive_for
 met_by l packet is a e left same = (rw (is, sym e), rw (sym e) same)
 
 -- One sender's words after an alive signal are that sender's.
-heard_words_lem : (r : Record) (clock : ℕ) (b : Body) → sender_of (heard_words r clock b) ≡ heard_by clock (sender_of r) b
-unfolding heard_words heard_by
+heard_words_lem : (r : Record) (clock : ℕ) (b : Body) → sender_of (heard_in heard_as clock r b) ≡ heard_by clock (sender_of r) b
+unfolding heard_in heard_by
 heard_words_lem r clock b = by (eqb b.mode 1)
   where
     by : (m : Bool) → sender_of (cond m (heard_as r true (record { stamp = clock; timeout = b.timeout })) (heard_as r false no_heard))
@@ -53,36 +56,37 @@ heard_words_lem r clock b = by (eqb b.mode 1)
     by true = heard_there r true (record { stamp = clock; timeout = b.timeout })
     by false = heard_there r false no_heard
 
-words_fit : (r : Record) (clock : ℕ) (b : Body) → b.timeout < half → fits r ≡ true → fits (heard_words r clock b) ≡ true
-unfolding heard_words
+words_fit : (r : Record) (clock : ℕ) (b : Body) → b.timeout < half → fits r ≡ true → fits (heard_in heard_as clock r b) ≡ true
+unfolding heard_in
 words_fit r clock b short e = cond_case (λ (q : Record). fits q ≡ true) (eqb b.mode 1) _ _
     (λ _. heard_fits r true (record { stamp = clock; timeout = b.timeout }) short e)
     (λ _. heard_fits r false no_heard (omega arith) e)
 
 module _ (l packet : List ℕ) (h : Head) (b : Body) (a : Address) (k : Look) (count : ℕ)
     (eh : h ≡ head_of packet) (eb : b ≡ body_of packet) (ea : a ≡ source h) (el : k ≡ look_in l a) (ec : count ≡ word l 4 % 256) where
-  abbrev Rows : ℕ
-  Rows = first (signal_rows k.valid count k.at packet h b)
+  abbrev Rows : List Row
+  Rows = signal_rows k.valid count k.at packet h b
 
-  state_rows : is_state l ≡ true → Rows ≡ first (signal_rows k.valid (word l 4) k.at packet h b)
-  state_rows is = ap (λ (c : ℕ). first (signal_rows k.valid c k.at packet h b)) (ec ∙ count_octet l is)
+  -- The rows of the state that the words are.
+  state_rows : is_state l ≡ true → checked (signal_rows k.valid (word l 4) k.at packet h b) ≡ checked Rows
+  state_rows is = ap (λ (c : ℕ). checked (signal_rows k.valid c k.at packet h b)) (sym (ec ∙ count_octet l is))
 
-  refused_outside : (n : ℕ) → is_state l ≡ false → n ≡ Rows → Met l packet n l
+  refused_outside : (n : Refusal) → is_state l ≡ false → checked Rows ≡ Err n → Met l packet (number_of n) l
   unfolding alive_for left_by
   refused_outside n not_so e =
-      let nine : n ≡ 9 = e ∙ first_here 9 (not k.valid) _ (rw (look_out l a k el not_so)) in
+      let nine : number_of n ≡ 9 = sym (given_checked Rows n e) ∙ first_here refusals.State (not k.valid) _ (rw (look_out l a k el not_so)) in
       (rw (not_so, nine), rw not_so)
 
-  pub met_refused : (n : ℕ) → n ≡ Rows → (n ≡ 0 → ⊥) → Met l packet n l
-  met_refused n e ne = ⊎_elim
+  pub met_refused : (n : Refusal) → checked Rows ≡ Err n → Met l packet (number_of n) l
+  met_refused n e = ⊎_elim
       (λ (is : is_state l ≡ true).
-      met_by l packet is (not_noted (state_in l) n) (signal_refused (state_in l) packet h b a k eh eb ea (look_in_lem l a k el is) n (e ∙ state_rows is) ne) l (left_same l))
+      met_by l packet is (not_noted (state_in l) n) (signal_refused (state_in l) packet h b a k eh eb ea (look_in_lem l a k el is) n (state_rows is ∙ e)) l (left_same l))
       (λ (not_so : is_state l ≡ false). refused_outside n not_so e)
       (true_or_false (is_state l))
 
-  module _ (n : ℕ) (number : n ≡ Rows) (none : n ≡ 0) where
+  module _ (none : checked Rows ≡ Ok tt) where
     facts : Heeded k.valid count k.at packet h b
-    facts = signal_facts k.valid count k.at packet h b (sym number ∙ none)
+    facts = signal_facts k.valid count k.at packet h b (none_checked Rows none)
 
     held : Held l
     held = look_so l a k el facts.is_valid
@@ -90,12 +94,12 @@ module _ (l packet : List ℕ) (h : Head) (b : Body) (a : Address) (k : Look) (c
     less : k.at < word l 4
     less = omega (arith, facts.registered, ec ∙ count_octet l held.means_state)
 
-    pub met_noted : (r q : Record) (clock : ℕ) (left : List ℕ) → r ≡ record_at l k.at → clock ≡ word l 3 → b.timeout < half → q ≡ heard_words r clock b
+    pub met_noted : (r q : Record) (clock : ℕ) (left : List ℕ) → r ≡ record_at l k.at → clock ≡ word l 3 → b.timeout < half → q ≡ heard_in heard_as clock r b
         → left ≡ laid l (place k.at) (record_words q) → Met l packet 0 left
     unfolding left_by
     met_noted r q clock left er ek short eq e =
         let are = state_facts l held.means_state in
-        let noted-is = signal_noted (state_in l) packet h b a k eh eb ea (look_in_lem l a k el held.means_state) n (number ∙ state_rows held.means_state) none in
+        let noted-is = signal_noted (state_in l) packet h b a k eh eb ea (look_in_lem l a k el held.means_state) (state_rows held.means_state ∙ none) in
         let sender : sender_of q ≡ heard_by (word l 3) (sender_at (state_in l) k.at) b = rw (eq, ek, sender_here l held k.at less r er) (heard_words_lem r (word l 3) b) in
         let own : fits q ≡ true = rw eq (words_fit r clock b short (own_fits l held k.at less r er)) in
         met_by l packet held.means_state (noted (state_in l) k.at b) noted-is left
@@ -104,11 +108,11 @@ module _ (l packet : List ℕ) (h : Head) (b : Body) (a : Address) (k : Look) (c
     means_noted : b.timeout < half → Means l (alive_answer (state_in l) packet).state
     means_noted short =
         let r = record_at l k.at in
-        let q = heard_words r (word l 3) b in
+        let q = heard_in heard_as (word l 3) r b in
         let are = state_facts l held.means_state in
         let few = place_few l held k.at less r refl in
         let own = words_fit r (word l 3) b short (own_fits l held k.at less r refl) in
-        let noted-is = signal_noted (state_in l) packet h b a k eh eb ea (look_in_lem l a k el held.means_state) n (number ∙ state_rows held.means_state) none in
+        let noted-is = signal_noted (state_in l) packet h b a k eh eb ea (look_in_lem l a k el held.means_state) (state_rows held.means_state ∙ none) in
         let sender : sender_of q ≡ heard_by (word l 3) (sender_at (state_in l) k.at) b = rw (sender_here l held k.at less r refl) (heard_words_lem r (word l 3) b) in
         means_by l (laid l (place k.at) (record_words q)) (alive_answer (state_in l) packet).state
         (met_noted r q (word l 3) _ refl refl short refl refl).1
@@ -128,10 +132,10 @@ alive_means l packet octets is =
     let a = source h in
     let k = look_in l a in
     let count = word l 4 % 256 in
-    let n = Rows l packet h b a k count refl refl refl refl refl in
+    let rows = Rows l packet h b a k count refl refl refl refl refl in
     ⊎_elim
-    (λ (none : n ≡ 0). means_noted l packet h b a k count refl refl refl refl refl n refl none (timeout_short packet octets))
-    (λ (ne : n ≢ 0).
-    let e = signal_refused (state_in l) packet h b a k refl refl refl (look_in_lem l a k refl is) n (state_rows l packet h b a k count refl refl refl refl refl is) ne in
+    (λ (none : checked rows ≡ Ok tt). means_noted l packet h b a k count refl refl refl refl refl none (timeout_short packet octets))
+    (λ (given : (n : Refusal) × (checked rows ≡ Err n)).
+    let e = signal_refused (state_in l) packet h b a k refl refl refl (look_in_lem l a k refl is) given.0 (state_rows l packet h b a k count refl refl refl refl refl is ∙ given.1) in
     subst (Means l) (ap (λ (x : Noted). x.state) e) (means_same l is))
-    (eq_or_ne n 0)
+    (ok_or_err (checked rows))

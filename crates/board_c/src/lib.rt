@@ -2,7 +2,7 @@
 #![tactic(auto)]
 
 ghost use Rattle.std.specs.Prelude.{◌≡◌, length};
-ghost use Rattle.board.specs.Calls.{setup_for, setup_words, message_for, storage_for, tally_for, multicast_for, tables_for, alive_for, clock_for, question_for, held_for, cutting_of, options_for, written_of};
+ghost use Rattle.board.specs.Calls.{setup_for, setup_words, message_for, storage_for, tally_for, multicast_for, tables_for, alive_for, clock_for, question_for, held_for, cutting_of, reported, options_for, written_of};
 ghost use Rattle.cut.specs.Cutter.{cutter_answer, cutter_buffer};
 ghost use Rattle.fault.specs.Reading.{reading_of, dead_at, error_at};
 ghost use Rattle.fault.specs.Writing.{writing_of, buffer_of};
@@ -13,8 +13,7 @@ ghost use Rattle.rules.specs.calls.Message.{message_answer};
 ghost use Rattle.words.specs.Words.{state_in, left_by};
 
 use answers::Setup;
-use board::{Cutting, Missing, Options, Ticked, Told, Written};
-use fault::reading::Report;
+use board::{Cutting, Missing, Options, Report, Ticked, Told, Written};
 use fault::{Error, NAME};
 use header::Given;
 
@@ -111,7 +110,7 @@ pub extern "C" fn adp_cut(
 
 #[unsafe(no_mangle)]
 pub extern "C" fn adp_fault_read(section: &[u8]) -> Report
-    ensures { result ≡ reading_of section.now }
+    ensures { result ≡ reported (reading_of section.now) }
 {
     board_fault::adp_fault_read(section)
 }

@@ -11,6 +11,7 @@ use Rattle.state.specs.declared.Sender.{Sender}
 use Rattle.state.specs.Limits.{clock_most, valid}
 use Rattle.state.specs.State.{senders_most, no_sender, with_senders, settings_from, state_of}
 use Rattle.answers.specs.declared.Ticked as by_value
+use Rattle.refusal.specs.declared.Refusal.TheVariants as refusals
 use Rattle.rules.specs.calls.Clock.{drops, dies, aged, aged_senders, map_where, ticked, clock_answer}
 use Rattle.rules.specs.calls.Clock as clock
 use Rattle.rules.proofs.calls.ClockLaws.{map_below, clock_nine, clock_back_lem, clock_on, map_again, state_more}
@@ -41,7 +42,7 @@ module _ (l : List ℕ) (ms : ℕ) where
   unfolding clock_for left_by clock.not_ticked
   met_nine e r told = nine_by l (Met l ms r l) e
       (λ no. (rw no told, rw no))
-      (λ is no. met_by l ms is (clock.not_ticked (state_in l) 9) (clock_nine (state_in l) ms no) r l told (unfold left_by in left_same l))
+      (λ is no. met_by l ms is (clock.not_ticked (state_in l) refusals.State) (clock_nine (state_in l) ms no) r l told (unfold left_by in left_same l))
 
   module _ (h : Held l) where
     abbrev w : Receiver
@@ -49,7 +50,7 @@ module _ (l : List ℕ) (ms : ℕ) where
 
     pub met_back : ltb ms (word l 3) || ltb clock_most ms ≡ true → (r : Ticked) → r ≡ not_ticked 21 → Met l ms r l
     unfolding clock.not_ticked
-    met_back e r told = met_by l ms h.means_state (clock.not_ticked w 21) (clock_back_lem w ms h.is_valid e) r l told (left_same l)
+    met_back e r told = met_by l ms h.means_state (clock.not_ticked w refusals.Clock) (clock_back_lem w ms h.is_valid e) r l told (left_same l)
 
     -- ---- turn by turn
 

@@ -3,6 +3,7 @@
 
 ghost use Rattle.std.specs.Prelude.{◌≡◌, cond, ◌+◌, ◌<◌};
 ghost use Rattle.map.specs.Map.{marked as marked_of};
+ghost use Rattle.refusal.specs.Numbers.{number_of};
 ghost use Rattle.rules.specs.calls.Clock.{clock_answer, drops as drops_at, dies as dies_at};
 ghost use Rattle.state.specs.State.{senders_most};
 ghost use Rattle.words.specs.Words.{sender_of, state_in, left_by};
@@ -10,8 +11,9 @@ ghost use Rattle.board.specs.Calls.{not_ticked, clock_for};
 ghost use Rattle.board_clock.specs.private.Aged.{aged_by};
 
 use board::Ticked;
-use clock::since;
+use clock::{old_in_ms, old_in_seconds, unless};
 use map::marked;
+use refusal::Refusal;
 use state::Receiver;
 use words::{Record, places};
 
@@ -20,24 +22,22 @@ pub fn adp_clock(state: &mut [u64], ms: u64) -> Ticked
     ensures left { state.new ≡ left_by state.old (clock_answer (state_in state.old) ms).state }
 {
     if !words_look::within(state) {
-        return refused(9);
+        return refused(Refusal::State);
     }
     if (ms < words::at(state, places::CLOCK)) | (Receiver::CLOCK_MOST < ms) {
-        return refused(21);
+        return refused(Refusal::Clock);
     }
     let t = words::at(state, places::T);
     let count = (words::at(state, places::COUNT) % 256) as u8;
     let mut dropped: u64 = 0;
     let mut dead: u64 = 0;
-    let mut i: u8 = 0;
-    while i < count {
+    for i in 0..count {
         let r = words::load(state, i);
         let drop = drops(r, t, ms);
         let die = dies(r, ms);
         words::put(state, i, aged(r, drop, die));
         dropped = with_place(dropped, i, drop);
         dead = with_place(dead, i, die);
-        i += 1;
     }
     words::set(state, places::CLOCK, ms);
     Ticked {
@@ -47,11 +47,11 @@ pub fn adp_clock(state: &mut [u64], ms: u64) -> Ticked
     }
 }
 
-fn refused(number: u8) -> Ticked
-    ensures { result ≡ not_ticked number }
+fn refused(refusal: Refusal) -> Ticked
+    ensures { result ≡ not_ticked (number_of refusal) }
 {
     Ticked {
-        number,
+        number: refusal.number(),
         dropped: 0,
         dead: 0,
     }
@@ -61,17 +61,18 @@ fn refused(number: u8) -> Ticked
 fn drops(r: Record, t: u64, ms: u64) -> bool
     ensures { result ≡ drops_at t ms (sender_of r) }
 {
-    (r.open == 1) & (t <= since(r.stamp, ms))
+    (r.open == 1) & old_in_ms(r.stamp, t, ms)
 }
 
 // Whether the alive sender has been silent for al_tm_out seconds or more.
 fn dies(r: Record, ms: u64) -> bool
     ensures { result ≡ dies_at ms (sender_of r) }
 {
-    (r.alive == 1) & (r.timeout <= since(r.heard, ms) / 1_000)
+    (r.alive == 1) & old_in_seconds(r.heard, r.timeout, ms)
 }
 
-// The map, with the place i marked if something holds of the sender there.
+// The map, with the place i marked if something holds of the sender there. Crate clock has its like over the 16 bits of
+// its answer, where a place is free: one over both would be no plainer.
 fn with_place(map: u64, i: u8, here: bool) -> u64
     requires { i < senders_most }
     ensures { result ≡ cond here (marked_of map (i + 1)) map }
@@ -89,20 +90,13 @@ fn aged(r: Record, drop: bool, die: bool) -> Record
     Record {
         address: r.address,
         last: r.last,
-        open: unless(drop, r.open),
-        message: unless(drop, r.message),
-        cut: unless(drop, r.cut),
-        map: unless(drop, r.map),
-        stamp: unless(drop, r.stamp),
-        alive: unless(die, r.alive),
-        heard: unless(die, r.heard),
-        timeout: unless(die, r.timeout),
+        open: unless(drop, 0, r.open),
+        message: unless(drop, 0, r.message),
+        cut: unless(drop, 0, r.cut),
+        map: unless(drop, 0, r.map),
+        stamp: unless(drop, 0, r.stamp),
+        alive: unless(die, 0, r.alive),
+        heard: unless(die, 0, r.heard),
+        timeout: unless(die, 0, r.timeout),
     }
-}
-
-// A word, or 0 where it is gone.
-fn unless(gone: bool, x: u64) -> u64
-    ensures { result ≡ cond gone 0 x }
-{
-    if gone { 0 } else { x }
 }

@@ -8,14 +8,15 @@ ghost use Rattle.board.specs.Calls.{cutting_of};
 use board::Cutting;
 use cut::cutter::cutter;
 use header::Given;
+use refusal::number_in;
 
 pub fn adp_cut(given: Given, message: &[u8], u: u16, piece: u8, buffer: &mut [u8]) -> Cutting
     ensures answer { result ≡ cutting_of (cutter_answer given message.now u piece (length buffer.old)) }
     ensures written { buffer.new ≡ cutter_buffer given message.now u piece buffer.old }
 {
-    let c = cutter(given, message, u, piece, buffer);
+    let cut = cutter(given, message, u, piece, buffer);
     Cutting {
-        number: c.number(),
-        length: c.length(),
+        number: number_in(cut),
+        length: cut.unwrap_or(0),
     }
 }

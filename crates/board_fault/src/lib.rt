@@ -4,17 +4,36 @@
 ghost use Rattle.std.specs.Prelude.{◌≡◌, length};
 ghost use Rattle.fault.specs.Reading.{reading_of, dead_at, error_at};
 ghost use Rattle.fault.specs.Writing.{writing_of, buffer_of};
-ghost use Rattle.board.specs.Calls.{options_for, written_of};
+ghost use Rattle.board.specs.Calls.{reported, options_for, written_of};
 
-use board::{Options, Written};
-use fault::reading::{Report, error_at, is_dead, options, options_at, read_section};
+use board::{Options, Report, Written};
+use fault::reading::{error_at, is_dead, options, options_at, read_section};
 use fault::writing::write_section;
 use fault::{Error, NAME};
+use refusal::number_in;
 
 pub fn adp_fault_read(section: &[u8]) -> Report
-    ensures { result ≡ reading_of section.now }
+    ensures { result ≡ reported (reading_of section.now) }
 {
-    read_section(section)
+    match read_section(section) {
+        Ok(r) => {
+            let name = r.name;
+            Report {
+                number: 0,
+                modules: r.modules,
+                errors: r.errors,
+                options: r.options,
+                name,
+            }
+        }
+        Err(refusal) => Report {
+            number: refusal.number(),
+            modules: 0,
+            errors: 0,
+            options: 0,
+            name: [0; NAME],
+        },
+    }
 }
 
 pub fn adp_fault_dead(section: &[u8], x: u32) -> bool
@@ -29,6 +48,7 @@ pub fn adp_fault_error(section: &[u8], index: u32) -> Error
     error_at(section, index)
 }
 
+#[tactic(auto, unfolding(board::specs::Calls::options_for))]
 pub fn adp_fault_options(section: &[u8]) -> Options
     ensures { result ≡ options_for section.now }
 {
@@ -58,9 +78,9 @@ pub fn adp_fault_write(
     ensures answer { result ≡ written_of (writing_of modules bits.now errors.now options.now (length buffer.old)) }
     ensures written { buffer.new ≡ buffer_of modules bits.now errors.now name.now options.now buffer.old }
 {
-    let w = write_section(modules, bits, errors, *name, options, buffer);
+    let written = write_section(modules, bits, errors, *name, options, buffer);
     Written {
-        number: w.number(),
-        length: w.length(),
+        number: number_in(written),
+        length: written.unwrap_or(0),
     }
 }

@@ -1,13 +1,17 @@
 -- The message call on words: what was refused leaves them as they are, and what was admitted leaves the words of the
 -- state that the call by value leaves. Assumes nothing.
-use Rattle.std.specs.Prelude.{ℕ, ◌%◌, ◌<◌, ◌≡◌, ◌≢◌, true, false, not, ◌&&◌, List, [], ◌∷◌, ◌++◌, leb, length}
+use Rattle.std.specs.Prelude.{ℕ, ◌%◌, ◌<◌, ◌≡◌, true, false, not, ◌&&◌, List, [], ◌∷◌, ◌++◌, leb, length, Ok, Err}
+use Rattle.std.specs.Option.{is_some}
 use Rattle.std.proofs.Math.Path.{refl, ap}
-use Rattle.std.proofs.Common.{sym, subst, ◌∙◌, ⊎_elim, arith, ne_eqb}
+use Rattle.std.proofs.Common.{sym, subst, ◌∙◌, ⊎_elim, arith}
 use Rattle.std.proofs.lemmas.Bool.{not-false}
 use Rattle.octets.specs.Run.{laid}
-use Rattle.octets.specs.Split.{eq_or_ne, true_or_false, cond_case, and_left, and_right}
+use Rattle.octets.specs.Split.{true_or_false, cond_case, and_left, and_right}
 use Rattle.header.specs.declared.Head.{Head}
 use Rattle.ring.specs.Ring.{is_number}
+use Rattle.refusal.specs.declared.Refusal.{Refusal}
+use Rattle.refusal.specs.declared.Refusal.TheVariants as refusals
+use Rattle.refusal.specs.Numbers.{number_of}
 use Rattle.header.specs.Codes.{is_user, is_mode, is_pri}
 use Rattle.header.specs.Head.{head_of, is_fixed}
 use Rattle.state.specs.declared.Address.{Address}
@@ -19,16 +23,17 @@ use Rattle.state.specs.Table.{source}
 use Rattle.state.proofs.WithinLaws.{SenderWithin}
 use Rattle.answers.specs.declared.Admission.{Admission}
 use Rattle.answers.specs.declared.Answer.{Answer}
+use Rattle.answers.specs.declared.Outcome.{Outcome}
 use Rattle.answers.specs.declared.Outcome.TheVariants.{Refused}
 use Rattle.answers.specs.declared.Where.{Where}
 use Rattle.answers.specs.declared.Where.TheVariants.{Nothing}
-use Rattle.answers.specs.Told.{refused_number}
+use Rattle.answers.specs.Told.{refused_by}
 use Rattle.rules.specs.calls.Admit.{sender_rows, sender_after, admitted, admission, message_after, last_by, verdict_of, fills, none_dropped}
-use Rattle.rules.proofs.calls.AdmitLaws.{Admitted, admitted_facts, admission_number, admission_yes}
+use Rattle.rules.proofs.calls.AdmitLaws.{Admitted, admitted_facts, admission_by, admission_yes}
 use Rattle.rules.proofs.calls.AdmitValidLaws.{after_stays}
 use Rattle.rules.specs.calls.Alike.{seen}
-use Rattle.rules.specs.calls.First.{row, first}
-use Rattle.rules.proofs.calls.FirstLaws.{numbered, first_here, first_none, first_append}
+use Rattle.rules.specs.calls.First.{Row, row, checked}
+use Rattle.rules.proofs.calls.FirstLaws.{none_checked, given_checked, err_none, ok_or_err, first_here, first_none, checked_append}
 use Rattle.rules.specs.calls.Message.{head_within, packet_rows, message_answer, refused, where_by, storage_after, with_sender, answer_of}
 use Rattle.rules.proofs.calls.MessageLaws.{Passed, passed_facts, Answered, pass_refused, pass_late, pass_taken}
 use Rattle.rules.proofs.calls.SeenLaws.{looks_rows, looks_admission, looks_held, looks_dropped, changes_after}
@@ -60,44 +65,51 @@ met_by l storage packet is a s e r left told same =
 
 module _ (l storage packet : List ℕ) (h : Head) (a : Address) (k : Look) (count : ℕ)
     (eh : h ≡ head_of packet) (ea : a ≡ source h) (el : k ≡ look_in l a) (ec : count ≡ word l 4 % 256) where
-  abbrev Rows : ℕ
-  Rows = first (packet_rows k.valid count k.at (length storage) packet h)
+  abbrev Rows : List Row
+  Rows = packet_rows k.valid count k.at (length storage) packet h
+
+  -- The rows of the state that the words are.
+  abbrev state_rows : List Row
+  state_rows = packet_rows k.valid (word l 4) k.at (length storage) packet h
 
   count_is : is_state l ≡ true → count ≡ word l 4
   count_is is = ec ∙ count_octet l is
 
-  early_refused : (n : ℕ) → is_state l ≡ true → n ≡ Rows → (n ≡ 0 → ⊥) → Answered (state_in l) storage packet (refused (state_in l) (Refused n 0)) storage
-  early_refused n is e ne =
-      pass_refused (state_in l) storage packet h a k eh ea (look_in_lem l a k el is) n (e ∙ ap (λ (c : ℕ). first (packet_rows k.valid c k.at (length storage) packet h)) (count_is is)) ne
+  same_rows : is_state l ≡ true → checked state_rows ≡ checked Rows
+  same_rows is = ap (λ (c : ℕ). checked (packet_rows k.valid c k.at (length storage) packet h)) (sym (count_is is))
 
-  refused_state : (n : ℕ) → is_state l ≡ true → n ≡ Rows → (n ≡ 0 → ⊥) → Met l storage packet (refused_with n) l storage
+  early_refused : (n : Refusal) → is_state l ≡ true → checked Rows ≡ Err n → Answered (state_in l) storage packet (refused (state_in l) (Refused n 0)) storage
+  early_refused n is e =
+      pass_refused (state_in l) storage packet h a k eh ea (look_in_lem l a k el is) n (same_rows is ∙ e)
+
+  refused_state : (n : Refusal) → is_state l ≡ true → checked Rows ≡ Err n → Met l storage packet (refused_with (number_of n)) l storage
   unfolding refused
-  refused_state n is e ne =
-      met_by l storage packet is (refused (state_in l) (Refused n 0)) storage (early_refused n is e ne)
-      (refused_with n) l refl (left_same l)
+  refused_state n is e =
+      met_by l storage packet is (refused (state_in l) (Refused n 0)) storage (early_refused n is e)
+      (refused_with (number_of n)) l refl (left_same l)
 
-  refused_outside : (n : ℕ) → is_state l ≡ false → n ≡ Rows → Met l storage packet (refused_with n) l storage
+  refused_outside : (n : Refusal) → is_state l ≡ false → checked Rows ≡ Err n → Met l storage packet (refused_with (number_of n)) l storage
   unfolding message_for storage_for left_by
   refused_outside n not_so e =
-      let nine : n ≡ 9 = e ∙ first_here 9 (not k.valid) _ (rw (look_out l a k el not_so)) in
+      let nine : number_of n ≡ 9 = sym (given_checked Rows n e) ∙ first_here refusals.State (not k.valid) _ (rw (look_out l a k el not_so)) in
       (rw (not_so, nine), (rw not_so, rw not_so))
 
   -- The first of 9 and 11 to 14 that applies.
-  pub met_early : (n : ℕ) → n ≡ Rows → (n ≡ 0 → ⊥) → (t : Told) → t ≡ refused_with n → Met l storage packet t l storage
-  met_early n e ne t et =
-      let m = ⊎_elim (λ is. refused_state n is e ne) (λ not_so. refused_outside n not_so e) (true_or_false (is_state l)) in
+  pub met_early : (n : Refusal) → checked Rows ≡ Err n → (t : Told) → t ≡ refused_with (number_of n) → Met l storage packet t l storage
+  met_early n e t et =
+      let m = ⊎_elim (λ is. refused_state n is e) (λ not_so. refused_outside n not_so e) (true_or_false (is_state l)) in
       (et ∙ m.0, m.1)
 
   -- None of them applies.
-  module _ (n : ℕ) (early : n ≡ Rows) (none : n ≡ 0) where
+  module _ (none : checked Rows ≡ Ok tt) where
     passed : Passed k.valid count k.at (length storage) packet h
-    passed = passed_facts k.valid count k.at (length storage) packet h (sym early ∙ none)
+    passed = passed_facts k.valid count k.at (length storage) packet h (none_checked Rows none)
 
     held : Held l
     held = look_so l a k el passed.is_valid
 
-    early_rows_lem : n ≡ first (packet_rows k.valid (word l 4) k.at (length storage) packet h)
-    early_rows_lem = early ∙ ap (λ (c : ℕ). first (packet_rows k.valid c k.at (length storage) packet h)) (count_is held.means_state)
+    state_none : checked state_rows ≡ Ok tt
+    state_none = same_rows held.means_state ∙ none
 
     less : k.at < word l 4
     less = omega (arith, passed.registered, count_is held.means_state)
@@ -112,43 +124,44 @@ module _ (l storage packet : List ℕ) (h : Head) (a : Address) (k : Look) (coun
         loaded : o ≡ admission (state_in l).test (word l 1) (word l 3) (seen (sender_of r)) h
         loaded = eo ∙ rw (es, loaded_seen l held k.at less r er, e1, n1_octets l held.is_valid)
 
-        same_rows : first (sender_rows (state_in l).test (word l 1) (seen (sender_of r)) h) ≡ first (sender_rows (state_in l).test (word l 1) (sender_of r) h)
-        same_rows = ap first (looks_rows h (state_in l).test (word l 1) (sender_of r))
+        same_late : checked (sender_rows (state_in l).test (word l 1) (seen (sender_of r)) h) ≡ checked (sender_rows (state_in l).test (word l 1) (sender_of r) h)
+        same_late = ap checked (looks_rows h (state_in l).test (word l 1) (sender_of r))
 
         same_outcome : o.outcome ≡ by_value.outcome
         same_outcome = ap (λ (x : Admission). x.outcome) loaded ∙ looks_admission h (state_in l).test (word l 1) (word l 3) (sender_of r)
 
         -- 15 to 20.
-        same_number : refused_number o.outcome ≡ refused_number by_value.outcome
-        same_number = ap refused_number same_outcome
+        same_refusal : is_some (refused_by o.outcome) ≡ is_some (refused_by by_value.outcome)
+        same_refusal = ap (λ (x : Outcome). is_some (refused_by x)) same_outcome
 
         at_place : by_value ≡ admission (state_in l).test (word l 1) (word l 3) (sender_at (state_in l) k.at) h
         at_place = rw (sender_here l held k.at less r er)
 
-        late_refused : (late : ℕ) → late ≡ refused_number o.outcome → (late ≡ 0 → ⊥) → Answered (state_in l) storage packet (refused (state_in l) o.outcome) storage
-        late_refused late e ne =
+        late_refused : is_some (refused_by o.outcome) ≡ true → Answered (state_in l) storage packet (refused (state_in l) o.outcome) storage
+        late_refused e =
             rw same_outcome
-            (pass_late (state_in l) storage packet h a k eh ea (look_in_lem l a k el held.means_state) n early_rows_lem none by_value at_place late (e ∙ same_number) ne)
+            (pass_late (state_in l) storage packet h a k eh ea (look_in_lem l a k el held.means_state) state_none by_value at_place (sym same_refusal ∙ e))
 
-        pub met_late : (late : ℕ) → late ≡ refused_number o.outcome → (late ≡ 0 → ⊥) → (t : Told) → t ≡ in_numbers o.outcome 0 none_dropped Nothing (length packet) → Met l storage packet t l storage
+        pub met_late : is_some (refused_by o.outcome) ≡ true → (t : Told) → t ≡ in_numbers o.outcome 0 none_dropped Nothing (length packet) → Met l storage packet t l storage
         unfolding refused
-        met_late late e ne t et =
-            met_by l storage packet held.means_state (refused (state_in l) o.outcome) storage (late_refused late e ne)
+        met_late e t et =
+            met_by l storage packet held.means_state (refused (state_in l) o.outcome) storage (late_refused e)
             t l et (left_same l)
 
         -- And none of these.
-        module _ (late : ℕ) (late_is : late ≡ refused_number o.outcome) (late_none : late ≡ 0) where
-          rows_none : first (sender_rows (state_in l).test (word l 1) (sender_of r) h) ≡ 0
-          rows_none = sym (admission_number (state_in l).test (word l 1) (word l 3) (sender_of r) h) ∙ sym same_number ∙ sym late_is ∙ late_none
+        module _ (late_none : is_some (refused_by o.outcome) ≡ false) where
+          rows_none : checked (sender_rows (state_in l).test (word l 1) (sender_of r) h) ≡ Ok tt
+          rows_none =
+              err_none _ (ap is_some (sym (admission_by (state_in l).test (word l 1) (word l 3) (sender_of r) h)) ∙ sym same_refusal ∙ late_none)
 
           is_admitted : by_value ≡ admitted (word l 1) (word l 3) (sender_of r) h
           is_admitted = admission_yes (state_in l).test (word l 1) (word l 3) (sender_of r) h rows_none
 
           loaded_admitted : o ≡ admitted (word l 1) (word l 3) (seen (sender_of r)) h
-          loaded_admitted = loaded ∙ admission_yes (state_in l).test (word l 1) (word l 3) (seen (sender_of r)) h (same_rows ∙ rows_none)
+          loaded_admitted = loaded ∙ admission_yes (state_in l).test (word l 1) (word l 3) (seen (sender_of r)) h (same_late ∙ rows_none)
 
           facts : Admitted (word l 1) (sender_of r) h
-          facts = admitted_facts (state_in l).test (word l 1) (sender_of r) h rows_none
+          facts = admitted_facts (state_in l).test (word l 1) (sender_of r) h (none_checked (sender_rows (state_in l).test (word l 1) (sender_of r) h) rows_none)
 
           abbrev after : Sender
           after = sender_after (word l 1) (word l 3) (sender_of r) h
@@ -197,11 +210,11 @@ module _ (l storage packet : List ℕ) (h : Head) (a : Address) (k : Look) (coun
               → (t : Told) → t ≡ in_numbers o.outcome o.held o.dropped p (length packet) → Met l storage packet t left stored
           met_taken p stored ep es q left eq et t told =
               met_by l storage packet held.means_state (answer_of (state_in l) k.at by_value p) stored
-              (pass_taken (state_in l) storage packet h a k eh ea (look_in_lem l a k el held.means_state) n early_rows_lem none by_value at_place late (late_is ∙ same_number) late_none p stored (ep ∙ rw same_outcome) es)
+              (pass_taken (state_in l) storage packet h a k eh ea (look_in_lem l a k el held.means_state) state_none by_value at_place (sym same_refusal ∙ late_none) p stored (ep ∙ rw same_outcome) es)
               t left (told ∙ rw (same_outcome, same_held, same_dropped)) (et ∙ ap (λ (x : Record). laid l (place k.at) (record_words x)) eq ∙ put_words)
 
           taken_state : with_sender (state_in l) k.at by_value.sender ≡ (message_answer (state_in l) (length storage) packet).state
-          taken_state = ap (λ (x : Answer). x.state) (pass_taken (state_in l) storage packet h a k eh ea (look_in_lem l a k el held.means_state) n early_rows_lem none by_value at_place late (late_is ∙ same_number) late_none _ _ refl refl).0
+          taken_state = ap (λ (x : Answer). x.state) (pass_taken (state_in l) storage packet h a k eh ea (look_in_lem l a k el held.means_state) state_none by_value at_place (sym same_refusal ∙ late_none) _ _ refl refl).0
 
           means_taken : Means l (message_answer (state_in l) (length storage) packet).state
           unfolding admitted
@@ -218,27 +231,26 @@ module _ (l storage packet : List ℕ) (h : Head) (a : Address) (k : Look) (coun
 -- ---- what is told before the header is read
 
 -- 9, 11 and 12 are told as of all rows: of what stands behind them, and of the sender, they say nothing.
-early_all : (l : List ℕ) (room : ℕ) (packet : List ℕ) (n : ℕ) → n ≡ first (early_rows l room packet) → n ≢ 0
-    → (a : Address) (i : ℕ) → n ≡ first (packet_rows (look_in l a).valid (word l 4 % 256) i room packet (head_of packet))
-unfolding numbered
-early_all l room packet n e ne a i =
+early_all : (l : List ℕ) (room : ℕ) (packet : List ℕ) (n : Refusal) → checked (early_rows l room packet) ≡ Err n
+    → (a : Address) (i : ℕ) → checked (packet_rows (look_in l a).valid (word l 4 % 256) i room packet (head_of packet)) ≡ Err n
+early_all l room packet n e a i =
     let rows = early_rows l room packet in
-    let behind = row 13 (not (head_within packet (head_of packet))) ∷ row 14 (leb (word l 4 % 256) i) ∷ [] in
-    let all : first (rows ++ behind) ≡ n = first_append rows behind refl ∙ rw (sym e, ne_eqb n 0 ne) in
-    rw (look_tells l a) (sym all)
+    let behind = row refusals.Header (not (head_within packet (head_of packet))) ∷ row refusals.Sender (leb (word l 4 % 256) i) ∷ [] in
+    let all : checked (rows ++ behind) ≡ Err n = checked_append rows behind ∙ rw e in
+    rw (look_tells l a) all
 
-pub met_first : (l storage packet : List ℕ) (n : ℕ) → n ≡ first (early_rows l (length storage) packet) → (n ≡ 0 → ⊥)
-    → (t : Told) → t ≡ refused_with n → Met l storage packet t l storage
-met_first l storage packet n e ne t et =
+pub met_first : (l storage packet : List ℕ) (n : Refusal) → checked (early_rows l (length storage) packet) ≡ Err n
+    → (t : Told) → t ≡ refused_with (number_of n) → Met l storage packet t l storage
+met_first l storage packet n e t et =
     let h = head_of packet in
     let a = source h in
-    met_early l storage packet h a (look_in l a) (word l 4 % 256) refl refl refl refl n (early_all l (length storage) packet n e ne a (look_in l a).at) ne t et
+    met_early l storage packet h a (look_in l a) (word l 4 % 256) refl refl refl refl n (early_all l (length storage) packet n e a (look_in l a).at) t et
 
 -- Where none of them applies, the place that is looked for is the sender's.
-pub look_by : (l : List ℕ) (room : ℕ) (packet : List ℕ) (n : ℕ) → n ≡ first (early_rows l room packet) → n ≡ 0
+pub look_by : (l : List ℕ) (room : ℕ) (packet : List ℕ) → checked (early_rows l room packet) ≡ Ok tt
     → (a : Address) (count i : ℕ) → count ≡ word l 4 % 256 → i ≡ place_in l a count → record { valid = true; at = i } ≡ look_in l a
-look_by l room packet n e none a count i ec ei =
-    let held = held_by l (not-false (is_held l) (first_none 9 (not (is_held l)) _ (omega arith) (sym e ∙ none)).0) in
+look_by l room packet none a count i ec ei =
+    let held = held_by l (not-false (is_held l) (first_none _ (not (is_held l)) _ (none_checked (early_rows l room packet) none)).0) in
     let own : i ≡ place_in l a (word l 4) = ei ∙ ap (place_in l a) (ec ∙ count_octet l held.means_state) in
     ap (λ (x : ℕ). record { valid = true; at = x }) own ∙ look_held l a held
 
@@ -250,21 +262,19 @@ message_means l storage packet is =
     let a = source h in
     let k = look_in l a in
     let count = word l 4 % 256 in
-    let n = Rows l storage packet h a k count refl refl refl refl in
     let w = state_in l in
     ⊎_elim
-    (λ (none : n ≡ 0).
+    (λ (none : checked (Rows l storage packet h a k count refl refl refl refl) ≡ Ok tt).
     let r = record_at l k.at in
     let o = admission w.test (word l 1 % 65536) (word l 3) (shown r) h in
-    let late = refused_number o.outcome in
     ⊎_elim
-    (λ (late_none : late ≡ 0).
-    means_taken l storage packet h a k count refl refl refl refl n refl none r refl o (word l 1 % 65536) (shown r) refl refl refl late refl late_none)
-    (λ (ne : late ≢ 0).
-    let e = late_refused l storage packet h a k count refl refl refl refl n refl none r refl o (word l 1 % 65536) (shown r) refl refl refl late refl ne in
+    (λ (some : is_some (refused_by o.outcome) ≡ true).
+    let e = late_refused l storage packet h a k count refl refl refl refl none r refl o (word l 1 % 65536) (shown r) refl refl refl some in
     subst (Means l) (ap (λ (x : Answer). x.state) e.0) (means_same l is))
-    (eq_or_ne late 0))
-    (λ (ne : n ≢ 0).
-    let e = early_refused l storage packet h a k count refl refl refl refl n is refl ne in
+    (λ (late_none : is_some (refused_by o.outcome) ≡ false).
+    means_taken l storage packet h a k count refl refl refl refl none r refl o (word l 1 % 65536) (shown r) refl refl refl late_none)
+    (true_or_false (is_some (refused_by o.outcome))))
+    (λ (given : (n : Refusal) × (checked (Rows l storage packet h a k count refl refl refl refl) ≡ Err n)).
+    let e = early_refused l storage packet h a k count refl refl refl refl given.0 is given.1 in
     subst (Means l) (ap (λ (x : Answer). x.state) e.0) (means_same l is))
-    (eq_or_ne n 0)
+    (ok_or_err (checked (Rows l storage packet h a k count refl refl refl refl)))

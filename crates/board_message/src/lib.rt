@@ -4,7 +4,8 @@
 ghost use Rattle.std.specs.Prelude.{◌≡◌, length};
 ghost use Rattle.answers.specs.declared.Where.TheVariants.{Packet};
 ghost use Rattle.answers.specs.Told.{where_told};
-ghost use Rattle.rules.specs.calls.First.{first};
+ghost use Rattle.refusal.specs.Numbers.{number_of};
+ghost use Rattle.rules.specs.calls.First.{checked};
 ghost use Rattle.rules.specs.calls.Message.{message_answer};
 ghost use Rattle.words.specs.Words.{state_in, left_by};
 ghost use Rattle.board.specs.Calls.{part_start, part_length, in_numbers, refused_with, message_for, storage_for};
@@ -13,7 +14,8 @@ ghost use Rattle.board_message.specs.private.Early.{early_rows};
 use answers::{Dropped, Outcome, Where};
 use board::Told;
 use header::{SIZE, read_bsize, read_head};
-use receiver::message::{MOST, packet_number, store, where_to};
+use receiver::message::{MOST, check_packet, store, where_to};
+use refusal::Refusal;
 use sender::admit;
 use state::{Address, Receiver};
 use words::places;
@@ -24,16 +26,14 @@ pub fn adp_message(state: &mut [u64], storage: &mut [u8], packet: &[u8]) -> Told
     ensures left { state.new ≡ left_by state.old (message_answer (state_in state.old) (length storage.old) packet.now).state }
     ensures stored { storage.new ≡ storage_for state.old storage.old packet.now }
 {
-    let early = early_number(state, storage.len(), packet);
-    if early != 0 {
-        return refused(early);
+    if let Err(refusal) = check_early(state, storage.len(), packet) {
+        return refused(refusal);
     }
     let h = read_head(packet);
     let count = (words::at(state, places::COUNT) % 256) as u8;
     let at = place_of(state, count, Address::of(h));
-    let number = packet_number(true, count, at, storage.len(), packet, h);
-    if number != 0 {
-        return refused(number);
+    if let Err(refusal) = check_packet(true, count, at, storage.len(), packet, h) {
+        return refused(refusal);
     }
     let r = words::load(state, at);
     let test = words::at(state, places::TEST) == 1;
@@ -41,8 +41,7 @@ pub fn adp_message(state: &mut [u64], storage: &mut [u8], packet: &[u8]) -> Told
     let clock = words::at(state, places::CLOCK);
     let a = admit(r.sender(), test, n1, clock, h);
     let outcome = a.outcome;
-    let late = outcome.refusal();
-    if late != 0 {
+    if outcome.refusal().is_some() {
         return in_numbers(outcome, 0, Dropped::NONE, Where::Nothing, packet.len());
     }
     let next = a.sender;
@@ -58,31 +57,31 @@ pub fn adp_message(state: &mut [u64], storage: &mut [u8], packet: &[u8]) -> Told
     )
 }
 
-// The first of 9, 11 and 12 that applies, or 0. A header whose length is known is read without a test of each octet's
-// place; `packet_number` asks for these numbers once more, of which nothing is left in what it compiles to.
-fn early_number(state: &[u64], room: usize, packet: &[u8]) -> u8
-    ensures { result ≡ first (early_rows state.now room packet.now) }
+// The first of 9, 11 and 12 that applies. A header whose length is known is read without a test of each octet's
+// place; `check_packet` asks for these once more, of which nothing is left in what it compiles to.
+fn check_early(state: &[u64], room: usize, packet: &[u8]) -> Result<(), Refusal>
+    ensures { result ≡ checked (early_rows state.now room packet.now) }
 {
     if !within(state) {
-        return 9;
+        return Err(Refusal::State);
     }
     let count = (words::at(state, places::COUNT) % 256) as u8;
     if room != (count as usize) * Receiver::AREA {
-        return 11;
+        return Err(Refusal::Storage);
     }
     let size = packet.len();
     if (size < SIZE) | (MOST < size) | (size != read_bsize(packet) as usize) {
-        return 12;
+        return Err(Refusal::Length);
     }
-    0
+    Ok(())
 }
 
-// "nothing more", of a refusal but 17, which has an age
-fn refused(number: u8) -> Told
-    ensures { result ≡ refused_with number }
+// "nothing more", of a refusal but `Refusal::Repeat`, which has an age
+fn refused(refusal: Refusal) -> Told
+    ensures { result ≡ refused_with (number_of refusal) }
 {
     Told {
-        number,
+        number: refusal.number(),
         verdict: 0,
         held: 0,
         slice: 0,

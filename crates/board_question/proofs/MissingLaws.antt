@@ -6,7 +6,7 @@ use borrow.Author.Tests.{eq-eqb, ne_eqb, lt-ltb}
 use Rattle.map.specs.Map.{lowest_missing}
 use Rattle.state.specs.declared.Sender.{Sender}
 use Rattle.state.specs.State.{sender_at, first_where}
-use Rattle.rules.specs.calls.First.{first}
+use Rattle.rules.specs.calls.First.{checked}
 use Rattle.rules.specs.calls.Question.{question_answer}
 use Rattle.rules.proofs.calls.QuestionLaws.{first_of, question_none, question_nine}
 use Rattle.words.specs.declared.Record.{Record}
@@ -34,7 +34,7 @@ module _ (l : List ℕ) where
 
     pub met_piece : (i : ℕ) → i < word l 4 → NoneTo i → (r : Record) → r ≡ record_at l i → r.«open» ≡ 1 → (piece : ℕ) → piece ≡ lowest_missing r.map
         → record { number = 0; «open» = true; sender = i; piece = piece } ≡ question_for l
-    unfolding question_for question_answer first
+    unfolding question_for question_answer checked
     met_piece i less none r er is_open piece e =
         let here : first_where (λ s. s.«open») (senders_in l) (word l 4) ≡ i = first_of (λ s. s.«open») (senders_in l) (word l 4) i less none (open_is i less r er ∙ eq-eqb r.«open» 1 is_open) in
         rw (h.means_state, h.is_valid, here, lt-ltb i (word l 4) less, sender_here l h i less r er, e)

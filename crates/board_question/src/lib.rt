@@ -6,17 +6,17 @@ ghost use Rattle.board.specs.Calls.{none_missing, question_for};
 
 use board::Missing;
 use map::lowest_missing;
+use refusal::Refusal;
 use words::places;
 
 pub fn adp_question(state: &[u64]) -> Missing
     ensures { result ≡ question_for state.now }
 {
     if !words_look::within(state) {
-        return none_open(9);
+        return none_open(Refusal::State.number());
     }
     let count = (words::at(state, places::COUNT) % 256) as u8;
-    let mut i: u8 = 0;
-    while i < count {
+    for i in 0..count {
         let r = words::load(state, i);
         if r.open == 1 {
             return Missing {
@@ -26,7 +26,6 @@ pub fn adp_question(state: &[u64]) -> Missing
                 piece: lowest_missing(r.map) as u8,
             };
         }
-        i += 1;
     }
     none_open(0)
 }

@@ -1,10 +1,9 @@
 -- A state written word by word. Assumes nothing.
 use Prim.Native.Nat.{ℕ, zero, suc, ◌+◌, ◌*◌, ◌≤◌, ◌<◌}
-use Rattle.std.specs.Prelude.{◌≡◌, Bool, true, false, ◌&&◌, List, [], ◌∷◌, ◌++◌, leb, length, get_or, set, take, drop}
+use Rattle.std.specs.Prelude.{◌≡◌, Bool, true, false, ◌&&◌, List, [], ◌++◌, leb, length, get_or, take, drop}
 use Rattle.std.proofs.Math.Path.{refl, sym}
-use Rattle.std.proofs.Common.{ap, ◌∙◌, append_assoc, append-nil, add-one, ⊎_elim, arith, leb-true, length-append, length-drop, length-set, drop_of_length-le, take_at, drop_at, drop-drop}
+use Rattle.std.proofs.Common.{ap, ◌∙◌, append_assoc, append-nil, add-one, ⊎_elim, arith, leb-true, length-append, length-drop, length-set, take_at, drop_at, drop-drop}
 use Rattle.std.proofs.lemmas.List.{get_or-replicate}
-use Rattle.std.proofs.lemmas.List.Edits.{sets-eq}
 use Rattle.std.proofs.Math.Seq.{drop-append-add}
 use Rattle.octets.specs.Run.{laid}
 use Rattle.octets.proofs.RunLaws.{laid_fits}
@@ -28,11 +27,6 @@ use Rattle.words.proofs.WordsLaws.{address_back, record_there}
 use Rattle.words.proofs.ListedLaws.{listed_same}
 use Rattle.words.proofs.StateLaws.{state_of_lem}
 use Rattle.words.proofs.ChangedLaws.{flag_there}
-
--- The settings.
-pub settings_set : (l : List ℕ) (a b c d e f g : ℕ) → length l ≡ words_most
-    → set (set (set (set (set (set (set l 0 a) 1 b) 2 c) 3 d) 4 e) 5 f) 6 g ≡ (a ∷ b ∷ c ∷ d ∷ e ∷ f ∷ g ∷ []) ++ drop before l
-settings_set l a b c d e f g many = sets-eq (a ∷ b ∷ c ∷ d ∷ e ∷ f ∷ g ∷ []) l 0 (omega arith)
 
 length_senders : (w : Receiver) (k : ℕ) → length (sender_words (sender_at w) k) ≡ k * each
 unfolding sender_words
@@ -68,12 +62,6 @@ sender_set l m w i r many few em er =
     = ap (drop (place i + each)) em ∙ ap (λ (k : ℕ). drop (k + each) (front w i ++ drop (place i) l)) (sym long)
     ∙ drop-append-add (front w i) (drop (place i) l) each ∙ drop-drop each (place i) l ∙ ap (λ (k : ℕ). drop k l) next in
     ap (λ (q : Record). laid m (place i) (record_words q)) er ∙ laid_fits m (place i) p fits ∙ rw (head, tail, add-one i) (simp append_assoc)
-
--- All of it.
-pub words_all : (l : List ℕ) (w : Receiver) (i : ℕ) → length l ≡ words_most → i ≡ senders_most → front w i ++ drop (place i) l ≡ front w senders_most
-words_all l w i many e =
-    let none : drop (place senders_most) l ≡ [] = drop_of_length-le l {i = place senders_most} (omega arith) in
-    rw (e, none) (append-nil (front w senders_most))
 
 -- ---- the words that setup leaves
 

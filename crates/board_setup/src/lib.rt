@@ -6,6 +6,7 @@ ghost use Rattle.words.specs.Words.{words_most, before, settings_words, words_of
 ghost use Rattle.board.specs.Calls.{setup_for, setup_words};
 
 use answers::Setup;
+use refusal::{Refusal, number_in};
 use state::Receiver;
 use words::{Record, groups_word, places};
 
@@ -15,13 +16,13 @@ pub fn adp_setup(state: &mut [u64], settings: Setup) -> u8
     ensures left { state.new ≡ setup_words state.old settings }
 {
     if state.len() != places::WORDS {
-        return 10;
+        return Refusal::Setup.number();
     }
     let started = setup::setup(settings);
     let call = started.call;
     let new = started.state;
     write(state, new);
-    call.number()
+    number_in(call)
 }
 
 // Writes a whole state, its settings and all 16 places.
@@ -30,11 +31,9 @@ fn write(words: &mut [u64], state: Receiver)
     ensures { words.new ≡ words_of state }
 {
     write_settings(words, state);
-    let mut i: u8 = 0;
-    while (i as usize) < Receiver::PLACES {
+    for i in 0..Receiver::PLACES as u8 {
         let s = state.senders[i as usize];
         words::put(words, i, Record::of(s));
-        i += 1;
     }
 }
 

@@ -1,16 +1,15 @@
 // The message call, its answer counted in two words of the caller's: answers of 0 and 1, and refusals.
 #![tactic(auto)]
 
-ghost use Rattle.std.specs.Prelude.{◌≡◌, ◌+◌, length};
+ghost use Rattle.std.specs.Prelude.{◌≡◌, length};
 ghost use Rattle.rules.specs.calls.Message.{message_answer};
-ghost use Rattle.tally.specs.Tally.{stopping};
 ghost use Rattle.words.specs.Words.{state_in, left_by};
 ghost use Rattle.board.specs.Calls.{message_for, storage_for, tally_for};
 
 use board::Told;
 use board_message::adp_message;
-use tally::Tally;
 
+// "each stopping at 4,294,967,295": where a u32 stops.
 pub fn adp_message_tallied(
     state: &mut [u64],
     storage: &mut [u8],
@@ -24,20 +23,9 @@ pub fn adp_message_tallied(
 {
     let r = adp_message(state, storage, packet);
     if r.number <= 1 {
-        tally[0] = one_more(tally[0]);
+        tally[0] = tally[0].saturating_add(1);
     } else {
-        tally[1] = one_more(tally[1]);
+        tally[1] = tally[1].saturating_add(1);
     }
     r
-}
-
-// "each stopping at 4,294,967,295"
-fn one_more(count: u32) -> u32
-    ensures { result ≡ stopping (count + 1) }
-{
-    if count < Tally::MOST {
-        count + 1
-    } else {
-        count
-    }
 }

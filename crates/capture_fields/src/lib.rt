@@ -4,87 +4,73 @@
 #![tactic(auto)]
 
 ghost use Rattle.std.specs.Prelude.{◌≡◌, ◌≤◌};
-ghost use Rattle.capture_fields.specs.Field.{kind_of, is_bad, next_of, contents_of, setup_of, address_in, senders_of, clock_of};
+ghost use Rattle.capture_fields.specs.Field.{kind_of, next_of, contents_of, setup_of, sender_in, address_in, senders_of, clock_of};
 
 use answers::Setup;
 use groups::Groups;
 use header::codes::{DataField, Node};
 use octets::{read1, read2, read4, read8, run};
-use state::{Address, Receiver};
+use state::Address;
+use std::array;
 
 // The octets in front of a field's contents: its tag and its length.
 pub const HEAD: usize = 3;
 
-// What a field is for.
-#[derive(Clone, Copy)]
+// What a field is for, by its tag.
+#[derive(Clone, Copy, PartialEq, Eq, Debug)]
 pub enum Kind {
-    Setup,
-    Message,
-    Clock,
-    Alive,
-    Bad,
+    Setup = 1,
+    Message = 2,
+    Clock = 3,
+    Alive = 4,
 }
 
-#[derive(Clone, Copy)]
-pub enum Next {
-    // no octet is left
-    Nothing,
+// A field of which no octet is missing: what it is for, and how many octets of contents it has.
+#[derive(Clone, Copy, PartialEq, Eq, Debug)]
+pub struct Whole {
+    pub kind: Kind,
+    pub size: usize,
+}
+
+// "A bad or cut field ends the run": why the field at the front is not read.
+#[derive(Clone, Copy, PartialEq, Eq, Debug)]
+pub enum Unread {
     // octets of the field are missing
     Cut,
     Bad,
-    // whole, with this many octets of contents
-    Whole { kind: Kind, size: usize },
 }
 
-pub fn kind_of(tag: u8, size: usize) -> Kind
+// No kind: such a field is bad.
+#[tactic(auto, unfolding(crate::specs::Field::kind_of))]
+pub fn kind_of(tag: u8, size: usize) -> Option<Kind>
     ensures { result ≡ kind_of tag size }
 {
-    if (tag == 1) & ((size == 10) | (size == 13) | (size == 16) | (size == 19)) {
-        return Kind::Setup;
+    match (tag, size) {
+        (1, 10 | 13 | 16 | 19) => Some(Kind::Setup),
+        (2, _) => Some(Kind::Message),
+        (3, 8) => Some(Kind::Clock),
+        (4, _) => Some(Kind::Alive),
+        _ => None,
     }
-    if tag == 2 {
-        return Kind::Message;
-    }
-    if (tag == 3) & (size == 8) {
-        return Kind::Clock;
-    }
-    if tag == 4 {
-        return Kind::Alive;
-    }
-    Kind::Bad
 }
 
-// What stands at the front of the octets at hand.
-pub fn next_field(octets: &[u8]) -> Next
+// What stands at the front of the octets at hand; nothing where no octet is left.
+#[tactic(auto, unfolding(crate::specs::Field::next_of))]
+pub fn next_field(octets: &[u8]) -> Result<Option<Whole>, Unread>
     ensures { result ≡ next_of octets.now }
 {
-    if octets.len() == 0 {
-        return Next::Nothing;
+    if octets.is_empty() {
+        return Ok(None);
     }
     if octets.len() < HEAD {
-        return Next::Cut;
+        return Err(Unread::Cut);
     }
     let size = read2(octets, 1) as usize;
-    let kind = kind_of(read1(octets, 0), size);
-    if is_bad(kind) {
-        return Next::Bad;
-    }
+    let kind = kind_of(read1(octets, 0), size).ok_or(Unread::Bad)?;
     if octets.len() - HEAD < size {
-        return Next::Cut;
+        return Err(Unread::Cut);
     }
-    Next::Whole { kind, size }
-}
-
-fn is_bad(kind: Kind) -> bool
-    ensures { result ≡ is_bad kind }
-{
-    match kind {
-        Kind::Setup => false,
-        Kind::Message => false,
-        Kind::Clock => false,
-        Kind::Alive => false,
-        Kind::Bad => true,
-    }
+    Ok(Some(Whole { kind, size }))
 }
 
 // The contents of the field at the front, of this many octets; of a field that is cut, those that are there.
@@ -99,44 +85,50 @@ pub fn contents(octets: &[u8], size: usize) -> &[u8]
 pub fn setup_of(contents: &[u8]) -> Setup
     ensures { result ≡ setup_of contents.now }
 {
-    let mut senders = [Address::NONE; Receiver::PLACES];
-    senders[0] = address_in(contents, 7);
-    senders[1] = address_in(contents, 10);
-    senders[2] = address_in(contents, 13);
-    senders[3] = address_in(contents, 16);
     Setup {
         mode: read1(contents, 0),
         n1: read2(contents, 1),
         t: read4(contents, 3),
         count: senders_of(contents.len()),
-        senders,
+        senders: array::from_fn(|i| sender_in(contents, i)),
         groups: Groups::NONE,
     }
 }
 
 // How many senders a setup of this many octets has.
+#[tactic(auto, unfolding(crate::specs::Field::senders_of))]
 fn senders_of(size: usize) -> u8
     ensures { result ≡ senders_of size }
 {
-    if size == 10 {
-        return 1;
+    match size {
+        10 => 1,
+        13 => 2,
+        16 => 3,
+        19 => 4,
+        _ => 0,
     }
-    if size == 13 {
-        return 2;
-    }
-    if size == 16 {
-        return 3;
-    }
-    if size == 19 { 4 } else { 0 }
 }
 
+// A setup has room for four senders.
+fn sender_in(contents: &[u8], place: usize) -> Address
+    ensures { result ≡ sender_in contents.now place }
+{
+    if place < 4 {
+        address_in(contents, 7 + 3 * place)
+    } else {
+        Address::NONE
+    }
+}
+
+// As in `edges_fields`: of what stands below both only `state` has addresses, and it reads no octets.
 fn address_in(contents: &[u8], at: usize) -> Address
     requires { at ≤ 16 }
     ensures { result ≡ address_in contents.now at }
 {
-    let field = DataField(read1(contents, at));
-    let node = Node(read2(contents, at + 1));
-    Address { field, node }
+    Address {
+        field: DataField(read1(contents, at)),
+        node: Node(read2(contents, at + 1)),
+    }
 }
 
 pub fn clock_of(contents: &[u8]) -> u64

@@ -1,9 +1,10 @@
 -- "Lines, in decimal with one blank between: S answer; P answer verdict held length …; C answer, dropped map, dead map
 -- …; A answer." "A bad or cut field ends the run with the line "E"."
 use Rattle.std.specs.Prelude.{ℕ, zero, suc, ◌+◌, ◌-◌, ◌/◌, ◌%◌, cond, List, [], ◌∷◌, ◌++◌, ltb, length, replicate}
+use Rattle.std.specs.List.{flat_map}
 use Rattle.octets.specs.Run.{laid}
 use Rattle.capture_lines.specs.declared.Line.{Line}
-use Rattle.capture_lines.specs.declared.Line.TheVariants.{Nothing, Setup, Message, Clock, Alive, End}
+use Rattle.capture_lines.specs.declared.Line.TheVariants.{Setup, Message, Clock, Alive, End}
 use Rattle.capture_lines.specs.declared.Text.{Text}
 
 -- A number "in decimal", in ASCII, of at most f + 1 digits.
@@ -15,14 +16,16 @@ decimal (suc f) n = cond (ltb n 10) ((48 + n) ∷ []) (decimal f (n / 10) ++ ((4
 unfoldable pub word_of : ℕ → List ℕ
 word_of n = (32 ∷ []) ++ decimal 19 n
 
--- The octets of a line, with the newline that ends it.
+-- A line's octets: a letter, its numbers, and the newline that ends it.
+abbrev pub line_with : ℕ → List ℕ → List ℕ
+line_with letter numbers = (letter ∷ flat_map word_of numbers) ++ (10 ∷ [])
+
 unfoldable pub line_of : Line → List ℕ
-line_of Nothing = []
-line_of (Setup answer) = (83 ∷ []) ++ word_of answer ++ (10 ∷ [])
-line_of (Message answer verdict held n) = (80 ∷ []) ++ word_of answer ++ word_of verdict ++ word_of held ++ word_of n ++ (10 ∷ [])
-line_of (Clock answer dropped dead) = (67 ∷ []) ++ word_of answer ++ word_of dropped ++ word_of dead ++ (10 ∷ [])
-line_of (Alive answer) = (65 ∷ []) ++ word_of answer ++ (10 ∷ [])
-line_of End = (69 ∷ []) ++ (10 ∷ [])
+line_of (Setup answer) = line_with 83 (answer ∷ [])
+line_of (Message answer verdict held n) = line_with 80 (answer ∷ verdict ∷ held ∷ n ∷ [])
+line_of (Clock answer dropped dead) = line_with 67 (answer ∷ dropped ∷ dead ∷ [])
+line_of (Alive answer) = line_with 65 (answer ∷ [])
+line_of End = line_with 69 []
 
 -- ---- a line as the code hands it over
 

@@ -1,16 +1,15 @@
 // The lines that a run prints, as octets.
 #![tactic(auto)]
 
-ghost use Rattle.std.specs.Prelude.{◌≡◌, [], ◌∷◌, ◌++◌, ◌≤◌};
+ghost use Rattle.std.specs.Prelude.{◌≡◌, [], ◌∷◌, ◌≤◌, length};
 ghost use Rattle.io.specs.Counts.{IsPrefixLen};
-ghost use Rattle.capture_lines.specs.Line.{word_of, line_of, text_of, added};
+ghost use Rattle.capture_lines.specs.Line.{word_of, line_with, line_of, text_of, added};
 
 use octets::lay;
 
 // What is said of a field. 01's numbers stand in it as they are printed.
-#[derive(Clone, Copy)]
+#[derive(Clone, Copy, PartialEq, Eq, Debug)]
 pub enum Line {
-    Nothing,
     Setup {
         answer: u8,
     },
@@ -32,75 +31,54 @@ pub enum Line {
     End,
 }
 
-// A line's octets: the first of an array that has room for every line. Behind them are zeros.
-#[derive(Clone, Copy)]
+// A line's octets: the first of an array that has room for every line. Behind them are zeros. An array with a length,
+// since memory is fixed: no heap.
+#[derive(Clone, Copy, PartialEq, Eq, Debug)]
 pub struct Text {
     pub octets: [u8; 96],
     pub length: usize,
 }
 
+#[tactic(auto, unfolding(crate::specs::Line::line_of))]
 pub fn text_of(line: Line) -> Text
     ensures value { result ≡ text_of (line_of line) }
     ensures prefix_len { IsPrefixLen result.length result.octets }
 {
     match line {
-        Line::Nothing => nothing(),
-        Line::Setup { answer } => one(83, answer as u64),
+        Line::Setup { answer } => line_with(b'S', &[answer as u64]),
         Line::Message {
             answer,
             verdict,
             held,
             length,
-        } => four(
-            80,
-            answer as u64,
-            verdict as u64,
-            held as u64,
-            length as u64,
+        } => line_with(
+            b'P',
+            &[answer as u64, verdict as u64, held as u64, length as u64],
         ),
         Line::Clock {
             answer,
             dropped,
             dead,
-        } => three(67, answer as u64, dropped as u64, dead as u64),
-        Line::Alive { answer } => one(65, answer as u64),
-        Line::End => newline(letter(69)),
+        } => line_with(b'C', &[answer as u64, dropped as u64, dead as u64]),
+        Line::Alive { answer } => line_with(b'A', &[answer as u64]),
+        Line::End => line_with(b'E', &[]),
     }
 }
 
-fn nothing() -> Text
-    ensures { result ≡ text_of [] }
+// A letter, the numbers, and a newline.
+fn line_with(l: u8, numbers: &[u64]) -> Text
+    requires { length numbers.now ≤ 4 }
+    ensures value { result ≡ text_of (line_with l numbers.now) }
+    ensures prefix_len { IsPrefixLen result.length result.octets }
 {
-    Text {
-        octets: [0; 96],
-        length: 0,
+    let mut t = letter(l);
+    for n in numbers {
+        t = word(t, *n);
     }
+    newline(t)
 }
 
-fn one(l: u8, a: u64) -> Text
-    ensures { result ≡ text_of ((l ∷ []) ++ word_of a ++ (10 ∷ [])) }
-{
-    newline(word(letter(l), a))
-}
-
-fn three(l: u8, a: u64, b: u64, c: u64) -> Text
-    ensures { result ≡ text_of ((l ∷ []) ++ word_of a ++ word_of b ++ word_of c ++ (10 ∷ [])) }
-{
-    newline(three_words(l, a, b, c))
-}
-
-fn four(l: u8, a: u64, b: u64, c: u64, d: u64) -> Text
-    ensures { result ≡ text_of ((l ∷ []) ++ word_of a ++ word_of b ++ word_of c ++ word_of d ++ (10 ∷ [])) }
-{
-    newline(word(three_words(l, a, b, c), d))
-}
-
-fn three_words(l: u8, a: u64, b: u64, c: u64) -> Text
-    ensures { (result ≡ text_of ((l ∷ []) ++ word_of a ++ word_of b ++ word_of c)) × (result.length ≤ 64) }
-{
-    word(word(word(letter(l), a), b), c)
-}
-
+#[tactic(auto, unfolding(crate::specs::Line::text_of))]
 fn letter(l: u8) -> Text
     ensures { result ≡ text_of (l ∷ []) }
 {
@@ -109,6 +87,7 @@ fn letter(l: u8) -> Text
     Text { octets, length: 1 }
 }
 
+#[tactic(auto, unfolding(crate::specs::Line::added))]
 fn newline(t: Text) -> Text
     requires { t.length ≤ 95 }
     ensures { result ≡ added t (10 ∷ []) }

@@ -1,28 +1,28 @@
 -- Between two setups a run is a past, and so is every part of a run since its last accepted setup. Assumes nothing.
-use Rattle.std.specs.Prelude.{ℕ, ◌+◌, ◌-◌, ◌*◌, ◌≤◌, ◌<◌, ◌≡◌, refl, true, false, List, [], ◌∷◌, ◌++◌, eqb, length, take, drop}
+use Rattle.std.specs.Prelude.{ℕ, ◌+◌, ◌*◌, ◌≤◌, ◌<◌, ◌≡◌, refl, false, List, [], ◌∷◌, ◌++◌, eqb, length, take, drop, Option, None, Some, Result, Ok, Err}
 use Rattle.std.proofs.Common.{sym, ap, subst, ◌∙◌, arith, take-append-drop, length-append, length-take-le, take_at, drop_at, take_all, get_or-take}
 use Rattle.std.proofs.Math.Logic.{⊎_elim}
 use Rattle.std.proofs.Math.Seq.{length_front}
 use Rattle.octets.specs.Number.{number}
 use Rattle.octets.proofs.NumberLaws.{number_ext}
-use Rattle.octets.specs.Split.{lt_or_le, true_or_false, never_both, cond_case}
+use Rattle.octets.specs.Split.{lt_or_le, true_or_false, cond_case}
 use Rattle.state.specs.declared.Receiver.{Receiver}
-use Rattle.answers.specs.declared.Setup.{Setup}
 use Rattle.rules.specs.calls.Message.{area}
 use Rattle.rules.specs.calls.Setup.{setup_within, setup_state, setup_answer}
 use Rattle.rules.specs.pasts.Past.{World, Event, message, alive, clock, step, after, said, answers}
 use Rattle.rules.proofs.pasts.PastLaws.{same_room, same_count}
 use Rattle.capture_fields.specs.declared.Kind.{Kind}
 use Rattle.capture_fields.specs.declared.Kind.TheVariants as kind
-use Rattle.capture_fields.specs.declared.Next.{Next}
-use Rattle.capture_fields.specs.declared.Next.TheVariants as next
-use Rattle.capture_fields.specs.Field.{tag_of, size_of, head_size, kind_of, is_bad, next_of, contents_of, senders_of, setup_of, clock_of}
-use Rattle.capture_fields.proofs.FieldLaws.{next_bad, next_cut, next_whole, whole_field, contents_more}
+use Rattle.capture_fields.specs.declared.Unread.{Unread}
+use Rattle.capture_fields.specs.declared.Unread.TheVariants as unread
+use Rattle.capture_fields.specs.declared.Whole.{Whole}
+use Rattle.capture_fields.specs.Field.{size_of, head_size, next_of, contents_of, senders_of, setup_of, clock_of}
+use Rattle.capture_fields.proofs.FieldLaws.{kind_at, next_bad, next_cut, next_whole, whole_field, contents_more}
 use Rattle.capture_lines.specs.declared.Line.{Line}
 use Rattle.capture_lines.specs.declared.Line.TheVariants as line
 use Rattle.capture_run.specs.declared.Turn.{Turn}
 use Rattle.capture_run.specs.Turn.{turn_of, storage_of, turn_by, turn_storage, wanted_by, lent_of}
-use Rattle.capture_run.specs.Run.{Held, Fits, lent_in, behind_in, world_in, at_first, read_of, EveryRead, turn_in, left_by, Field, whole, IsGood, line_at, left_at, ran, printed, calls_in, lines_told, AllOf, IsPast, BetweenSetups, Begins, AtSetup, BeforeSetup, OfPast, EveryRun, OfRun, IsTurn, EveryTurn}
+use Rattle.capture_run.specs.Run.{Held, Fits, lent_in, behind_in, world_in, at_first, read_of, EveryRead, turn_in, left_by, Field, whole, line_at, left_at, ran, printed, calls_in, lines_told, IsPast, BetweenSetups, Begins, AtSetup, BeforeSetup, OfPast, EveryRun, OfRun, IsTurn, EveryTurn}
 
 -- ---- what is lent
 
@@ -189,7 +189,6 @@ between_setups p f (whole kind.Alive c ∷ fs) n =
       stays = rest.stays ∙ i.next_behind;
       fits = rest.fits;
     }
-between_setups p f (whole kind.Bad c ∷ fs) n = absurd n.0
 
 -- ---- the whole run
 
@@ -212,36 +211,38 @@ of_call p f e o i = record {
   fits = i.next_fits;
 }
 
-of_turn : (p : Held) → OfPast p → (f : Field) → IsGood f → OfPast (left_at p f)
-of_turn p o (whole kind.Setup c) g =
+of_turn : (p : Held) → OfPast p → (f : Field) → OfPast (left_at p f)
+of_turn p o (whole kind.Setup c) =
     ⊎_elim (λ e. of_start (at_setup p o.fits c e).1) (λ e. subst OfPast (sym (setup_refused p c e).1) o) (true_or_false (setup_within (setup_of c)))
-of_turn p o (whole kind.Message c) g = of_call p (whole kind.Message c) (message c) o (message_call p o.fits c)
-of_turn p o (whole kind.Clock c) g = of_call p (whole kind.Clock c) (clock (clock_of c)) o (clock_call p o.fits c)
-of_turn p o (whole kind.Alive c) g = of_call p (whole kind.Alive c) (alive c) o (alive_call p o.fits c)
-of_turn p o (whole kind.Bad c) g = absurd (never_both refl g)
+of_turn p o (whole kind.Message c) = of_call p (whole kind.Message c) (message c) o (message_call p o.fits c)
+of_turn p o (whole kind.Clock c) = of_call p (whole kind.Clock c) (clock (clock_of c)) o (clock_call p o.fits c)
+of_turn p o (whole kind.Alive c) = of_call p (whole kind.Alive c) (alive c) o (alive_call p o.fits c)
 
-of_run : (p : Held) → OfPast p → (fs : List Field) → AllOf IsGood fs → OfPast (ran p fs)
+of_run : (p : Held) → OfPast p → (fs : List Field) → OfPast (ran p fs)
 unfolding ran
-of_run p o [] g = o
-of_run p o (f ∷ fs) g = of_run (left_at p f) (of_turn p o f g.0) fs g.1
+of_run p o [] = o
+of_run p o (f ∷ fs) = of_run (left_at p f) (of_turn p o f) fs
 
 of_first : (room : List ℕ) → length room ≡ 4 * area → OfPast (at_first room)
 of_first room e = of_start (before_setup room e)
 
 pub every_run : EveryRun
-every_run room e fs g = of_run (at_first room) (of_first room e) fs g
+every_run room e fs = of_run (at_first room) (of_first room e) fs
 
 -- ---- what was read
 
 pub every_turn : EveryTurn
 unfolding turn_by turn_storage
-every_turn p s = by (next_of s) refl
+every_turn p s t = by (next_of s) refl
   where
-    by : (x : Next) → next_of s ≡ x → (turn_in p s).on ≡ true → IsTurn p s
-    by next.Nothing e on = absurd (never_both on (rw e))
-    by next.Cut e on = absurd (never_both on (rw e))
-    by next.Bad e on = absurd (never_both on (rw e))
-    by (next.Whole k n) e on = record { kind = k; size = n; at_front = e; good = (whole_field s k n e).good; says = rw e; leaves = rw e }
+    by : (x : Result (Option Whole) Unread) → next_of s ≡ x → turn_in p s ≡ Ok (Some t) → IsTurn p s t
+    by (Err why) e on = let no : Err why ≡ Ok (Some t) = sym (rw e) ∙ on in cc
+    by (Ok None) e on = let no : Ok None ≡ Ok (Some t) = sym (rw e) ∙ on in cc
+    by (Ok (Some f)) e on =
+        let c = contents_of s f.size in
+        let is : Ok (Some (turn_of p.state (world_in p).storage f.kind c)) ≡ Ok (Some t) = sym (rw e) ∙ on in
+        let same : t ≡ turn_of p.state (world_in p).storage f.kind c = cc in
+        record { field = f; at_front = e; says = ap (λ (x : Turn). x.line) same; leaves = rw e (ap (λ (x : Turn). held x.state (storage_of p.state (world_in p).storage f.kind c ++ behind_in p)) same) }
 
 -- ---- what a program holds
 
@@ -250,42 +251,36 @@ unfolding ran
 ran_more p [] f = refl
 ran_more p (g ∷ fs) f = ran_more (left_at p g) fs f
 
-good_more : (fs : List Field) (f : Field) → AllOf IsGood fs → IsGood f → AllOf IsGood (fs ++ f ∷ [])
-good_more [] f all g = (g, tt)
-good_more (h ∷ fs) f all g = (all.0, good_more fs f all.1 g)
-
 -- No field, at first.
 pub of_none : (room : List ℕ) → length room ≡ 4 * area → OfRun room 0 (at_first room)
 unfolding ran
-of_none room e = record { room_for_four = e; fields = []; good = tt; as_many = refl; left = refl }
+of_none room e = record { room_for_four = e; fields = []; as_many = refl; left = refl }
 
-one_more : {room : List ℕ} {n : ℕ} {p : Held} (f : Field) → OfRun room n p → IsGood f → OfRun room (n + 1) (left_at p f)
-one_more {room} f o g = record {
+one_more : {room : List ℕ} {n : ℕ} {p : Held} (f : Field) → OfRun room n p → OfRun room (n + 1) (left_at p f)
+one_more {room} f o = record {
   room_for_four = o.room_for_four;
   fields = o.fields ++ f ∷ [];
-  good = good_more o.fields f o.good g;
   as_many = length-append o.fields (f ∷ []) ∙ ap (λ (k : ℕ). k + 1) o.as_many;
   left = ap (λ (x : Held). left_at x f) o.left ∙ sym (ran_more (at_first room) o.fields f);
 }
 
 pub run_past : {room : List ℕ} {n : ℕ} {p : Held} → OfRun room n p → OfPast p
-run_past {room} o = subst OfPast (sym o.left) (every_run room o.room_for_four o.fields o.good)
+run_past {room} o = subst OfPast (sym o.left) (every_run room o.room_for_four o.fields)
 
 -- One turn more, if the run goes on: k octets of the room are lent, the turn is taken, and the octets behind come after
 -- what it left.
 pub goes_on : (room : List ℕ) (n : ℕ) (p : Held) → OfRun room n p → (k : ℕ) → k ≡ lent_of p.state.count (4 * area)
     → (s : List ℕ) (t : Turn) (storage : List ℕ)
-    → t ≡ turn_by p.state (take k p.room) s (next_of s) → storage ≡ turn_storage p.state (take k p.room) s (next_of s) → t.on ≡ true
+    → Ok (Some t) ≡ turn_by p.state (take k p.room) s (next_of s) → storage ≡ turn_storage p.state (take k p.room) s (next_of s)
     → OfRun room (n + 1) (held t.state (storage ++ drop k p.room))
-goes_on room n p o k lent s t storage answer stored on =
+goes_on room n p o k lent s t storage answer stored =
     let is : k ≡ lent_in p = rw (run_past o).fits.room_for_four lent in
-    let took : t ≡ turn_in p s = answer ∙ ap (λ (j : ℕ). turn_by p.state (take j p.room) s (next_of s)) is in
-    let turn = every_turn p s (sym (ap (λ (x : Turn). x.on) took) ∙ on) in
-    let left : held t.state (storage ++ drop k p.room) ≡ left_by p s =
-    ap (λ (x : Turn). held x.state (storage ++ drop k p.room)) took
-    ∙ ap (λ (x : List ℕ). held (turn_in p s).state (x ++ drop k p.room)) stored
-    ∙ ap (λ (j : ℕ). held (turn_in p s).state (turn_storage p.state (take j p.room) s (next_of s) ++ drop j p.room)) is in
-    subst (OfRun room (n + 1)) (sym (left ∙ turn.leaves)) (one_more (whole turn.kind (contents_of s turn.size)) o turn.good)
+    let took : Ok (Some t) ≡ turn_in p s = answer ∙ ap (λ (j : ℕ). turn_by p.state (take j p.room) s (next_of s)) is in
+    let turn = every_turn p s t (sym took) in
+    let left : held t.state (storage ++ drop k p.room) ≡ left_by p s t =
+    ap (λ (x : List ℕ). held t.state (x ++ drop k p.room)) stored
+    ∙ ap (λ (j : ℕ). held t.state (turn_storage p.state (take j p.room) s (next_of s) ++ drop j p.room)) is in
+    subst (OfRun room (n + 1)) (sym (left ∙ turn.leaves)) (one_more (whole turn.field.kind (contents_of s turn.field.size)) o)
 
 -- ---- what is read from an input
 
@@ -294,48 +289,55 @@ head_number : (w at m : ℕ) (s : List ℕ) → at + w ≤ m → number w (take 
 head_number w at m s h = number_ext w (take m s) s at at (λ k q. get_or-take m s (at + k) 0 (omega (arith, h, q)))
 
 module _ (s : List ℕ) (long : head_size ≤ length s) where
-  abbrev kind_at : Kind
-  kind_at = kind_of (tag_of s) (size_of s)
+  -- The front of it has the same head, and so the same kind of field.
+  same_size : (m : ℕ) → head_size ≤ m → size_of (take m s) ≡ size_of s
+  same_size m h = head_number 2 1 m s (omega (arith, h))
 
-  next_at : (m : ℕ) → head_size ≤ m → (tag_of s ≡ tag_of (take m s)) × (size_of s ≡ size_of (take m s))
-  next_at m h = (sym (head_number 1 0 m s (omega (arith, h))), sym (head_number 2 1 m s (omega (arith, h))))
+  same_kind : (m : ℕ) → head_size ≤ m → kind_at (take m s) ≡ kind_at s
+  same_kind m h = rw (head_number 1 0 m s (omega (arith, h)), same_size m h)
 
   head_long : length (take head_size s) ≡ head_size
   head_long = length-take-le head_size s long
 
   -- the front of it, where it is bad, cut, or whole
-  bad_at : (m : ℕ) → head_size ≤ m → head_size ≤ length (take m s) → is_bad kind_at ≡ true → next_of (take m s) ≡ next.Bad
-  bad_at m h l e = sym (next_bad (take m s) (tag_of s) (size_of s) kind_at l (next_at m h).0 (next_at m h).1 refl e)
+  bad_at : (m : ℕ) → head_size ≤ m → head_size ≤ length (take m s) → kind_at s ≡ None → next_of (take m s) ≡ Err unread.Bad
+  bad_at m h l e = next_bad (take m s) l (same_kind m h ∙ e)
 
-  cut_at : (m : ℕ) → head_size ≤ m → head_size ≤ length (take m s) → is_bad kind_at ≡ false → length (take m s) - head_size < size_of s → next_of (take m s) ≡ next.Cut
-  cut_at m h l e c = sym (next_cut (take m s) (tag_of s) (size_of s) kind_at l (next_at m h).0 (next_at m h).1 refl e c)
+  module _ (k : Kind) (is : kind_at s ≡ Some k) where
+    cut_at : (m : ℕ) → head_size ≤ m → head_size ≤ length (take m s) → length (take m s) < head_size + size_of s → next_of (take m s) ≡ Err unread.Cut
+    cut_at m h l c = next_cut (take m s) l k (same_kind m h ∙ is) (omega (arith, same_size m h, c))
 
-  whole_at : (m : ℕ) → head_size ≤ m → head_size ≤ length (take m s) → is_bad kind_at ≡ false → size_of s ≤ length (take m s) - head_size
-      → next_of (take m s) ≡ next.Whole kind_at (size_of s)
-  whole_at m h l e c = sym (next_whole (take m s) (tag_of s) (size_of s) kind_at l (next_at m h).0 (next_at m h).1 refl e c)
+    whole_at : (m : ℕ) → head_size ≤ m → head_size ≤ length (take m s) → head_size + size_of s ≤ length (take m s)
+        → next_of (take m s) ≡ Ok (Some (record { kind = k; size = size_of s }))
+    whole_at m h l c =
+        next_whole (take m s) l k (same_kind m h ∙ is) (omega (arith, same_size m h, c)) ∙ ap (λ (n : ℕ). Ok (Some (record { kind = k; size = n }))) (same_size m h)
 
-  wanted_bad : is_bad kind_at ≡ true → wanted_by (take head_size s) (next_of (take head_size s)) ≡ 0
+    wanted_good : wanted_by (take head_size s) (next_of (take head_size s)) ≡ size_of s
+    unfolding wanted_by
+    wanted_good = ⊎_elim
+        (λ (some : 0 < size_of s). rw (cut_at head_size (omega arith) (omega (arith, head_long)) (omega (arith, head_long, some)), head_long) (same_size head_size (omega arith)))
+        (λ (none : size_of s ≤ 0). rw (whole_at head_size (omega arith) (omega (arith, head_long)) (omega (arith, head_long, none))) (omega (arith, none)))
+        (lt_or_le 0 (size_of s))
+
+    -- All of it is read, or its length and its head are known and all that it wants is read.
+    next_good : next_of (read_of s) ≡ next_of s
+    next_good = rw wanted_good (⊎_elim
+        (λ (less : length s < head_size + size_of s). ap next_of (take_all (head_size + size_of s) s (omega (arith, less))))
+        (λ (more : head_size + size_of s ≤ length s).
+        let all = length-take-le (head_size + size_of s) s more in
+        whole_at (head_size + size_of s) (omega arith) (omega (arith, all)) (omega (arith, all)) ∙ sym (next_whole s long k is more))
+        (lt_or_le (length s) (head_size + size_of s)))
+
+  wanted_bad : kind_at s ≡ None → wanted_by (take head_size s) (next_of (take head_size s)) ≡ 0
   unfolding wanted_by
   wanted_bad e = rw (bad_at head_size (omega arith) (omega (arith, head_long)) e)
 
-  wanted_good : is_bad kind_at ≡ false → wanted_by (take head_size s) (next_of (take head_size s)) ≡ size_of s
-  unfolding wanted_by
-  wanted_good e = ⊎_elim
-      (λ (some : 0 < size_of s). rw (cut_at head_size (omega arith) (omega (arith, head_long)) e (omega (arith, head_long, some)), head_long) (sym (next_at head_size (omega arith)).1))
-      (λ (none : size_of s ≤ 0). rw (whole_at head_size (omega arith) (omega (arith, head_long)) e (omega (arith, none))) (omega (arith, none)))
-      (lt_or_le 0 (size_of s))
-
-  -- All of it is read, or its length and its head are known and all that it wants is read.
   next_long : next_of (read_of s) ≡ next_of s
-  next_long = ⊎_elim
-      (λ e. rw (wanted_bad e) (bad_at head_size (omega arith) (omega (arith, head_long)) e ∙ next_bad s (tag_of s) (size_of s) kind_at long refl refl refl e))
-      (λ e. rw (wanted_good e) (⊎_elim
-      (λ (less : length s < head_size + size_of s). ap next_of (take_all (head_size + size_of s) s (omega (arith, less))))
-      (λ (more : head_size + size_of s ≤ length s).
-      let all = length-take-le (head_size + size_of s) s more in
-      whole_at (head_size + size_of s) (omega arith) (omega (arith, all)) e (omega (arith, all)) ∙ next_whole s (tag_of s) (size_of s) kind_at long refl refl refl e (omega (arith, more)))
-      (lt_or_le (length s) (head_size + size_of s))))
-      (true_or_false (is_bad kind_at))
+  next_long = by (kind_at s) refl
+    where
+      by : (o : Option Kind) → kind_at s ≡ o → next_of (read_of s) ≡ next_of s
+      by None e = rw (wanted_bad e) (bad_at head_size (omega arith) (omega (arith, head_long)) e ∙ sym (next_bad s long e))
+      by (Some k) e = next_good k e
 
 next_read : (s : List ℕ) → next_of (read_of s) ≡ next_of s
 next_read s = ⊎_elim
@@ -348,10 +350,9 @@ every_read s =
     let m = head_size + wanted_by (take head_size s) (next_of (take head_size s)) in
     record {
       same_next = next_read s;
-      same_contents = λ k n e. sym (contents_more (read_of s) (drop m s) k n (next_read s ∙ e)) ∙ ap (λ (x : List ℕ). contents_of x n) (take-append-drop m s);
-      all_of_it = λ k n e.
-          let f = whole_field s k n e in
-          let there : head_size + size_of s ≤ length s = omega (arith, f.all_there, f.its_size) in
-          let good : is_bad (kind_of (tag_of s) (size_of s)) ≡ false = sym (ap is_bad f.its_kind) ∙ f.good in
-          rw (wanted_good s (omega (arith, there)) good) (length-take-le (head_size + size_of s) s there ∙ omega (arith, f.its_size));
+      same_contents = λ f e. sym (contents_more (read_of s) (drop m s) f (next_read s ∙ e)) ∙ ap (λ (x : List ℕ). contents_of x f.size) (take-append-drop m s);
+      all_of_it = λ f e.
+          let i = whole_field s f e in
+          let there : head_size + size_of s ≤ length s = omega (arith, i.all_there, i.its_size) in
+          rw (wanted_good s (omega (arith, there)) f.kind i.its_kind) (length-take-le (head_size + size_of s) s there ∙ omega (arith, i.its_size));
     }

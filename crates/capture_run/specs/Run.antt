@@ -2,7 +2,7 @@
 -- the calls of a past: "A past is a setup, storage of its right length with any octets in it, and then calls, each
 -- given the state and storage that the one before left." Proved in RunLaws.antt. That such a past is a course, of which
 -- the demands speak, is `start_course` and `a_course` of `promises`.
-use Rattle.std.specs.Prelude.{ℕ, ◌+◌, ◌*◌, ◌≤◌, ◌≡◌, true, false, List, [], ◌∷◌, ◌++◌, length, take, drop}
+use Rattle.std.specs.Prelude.{ℕ, ◌+◌, ◌*◌, ◌≤◌, ◌≡◌, true, false, List, [], ◌∷◌, ◌++◌, length, take, drop, Option, Some, Result, Ok}
 use Rattle.state.specs.declared.Receiver.{Receiver}
 use Rattle.state.specs.State.{empty_receiver}
 use Rattle.answers.specs.Told.{message_told, call_number, clock_told}
@@ -11,8 +11,9 @@ use Rattle.rules.specs.calls.Setup.{setup_within}
 use Rattle.rules.specs.pasts.Past.{World, Event, message, alive, clock, aside, after, Said, Answers, answers, Start}
 use Rattle.capture_fields.specs.declared.Kind.{Kind}
 use Rattle.capture_fields.specs.declared.Kind.TheVariants as kind
-use Rattle.capture_fields.specs.declared.Next.TheVariants as next
-use Rattle.capture_fields.specs.Field.{head_size, is_bad, next_of, contents_of, setup_of, clock_of}
+use Rattle.capture_fields.specs.declared.Unread.{Unread}
+use Rattle.capture_fields.specs.declared.Whole.{Whole}
+use Rattle.capture_fields.specs.Field.{head_size, next_of, contents_of, setup_of, clock_of}
 use Rattle.capture_lines.specs.declared.Line.{Line}
 use Rattle.capture_lines.specs.declared.Line.TheVariants as line
 use Rattle.capture_run.specs.declared.Turn.{Turn}
@@ -56,8 +57,8 @@ read_of s = take (head_size + wanted_by (take head_size s) (next_of (take head_s
 -- the turn sees the same as if all were at hand.
 pub record ReadsField (s : List ℕ) : Type 0 where
   pub same_next : next_of (read_of s) ≡ next_of s
-  pub same_contents : (k : Kind) (n : ℕ) → next_of s ≡ next.Whole k n → contents_of (read_of s) n ≡ contents_of s n
-  pub all_of_it : (k : Kind) (n : ℕ) → next_of s ≡ next.Whole k n → length (read_of s) ≡ head_size + n
+  pub same_contents : (f : Whole) → next_of s ≡ Ok (Some f) → contents_of (read_of s) f.size ≡ contents_of s f.size
+  pub all_of_it : (f : Whole) → next_of s ≡ Ok (Some f) → length (read_of s) ≡ head_size + f.size
 
 abbrev pub EveryRead : Type 0
 EveryRead = (s : List ℕ) → ReadsField s
@@ -66,22 +67,18 @@ EveryRead = (s : List ℕ) → ReadsField s
 
 -- The turn on what was read, with what is lent. Then the state that it leaves is in use, and the octets that were lent
 -- stand again in front of those that were not.
-abbrev pub turn_in : Held → List ℕ → Turn
+abbrev pub turn_in : Held → List ℕ → Result (Option Turn) Unread
 turn_in p s = turn_by p.state (world_in p).storage s (next_of s)
 
-abbrev pub left_by : Held → List ℕ → Held
-left_by p s = record {
-  state = (turn_in p s).state;
+abbrev pub left_by : Held → List ℕ → Turn → Held
+left_by p s t = record {
+  state = t.state;
   room = turn_storage p.state (world_in p).storage s (next_of s) ++ behind_in p;
 }
 
 -- A whole field: what it is for, and its contents.
 pub data Field : Type 0 where
   whole : Kind → List ℕ → Field
-
--- "A bad or cut field ends the run": no field that is whole is bad.
-abbrev pub IsGood : Field → Type 0
-IsGood (whole k c) = is_bad k ≡ false
 
 abbrev pub line_at : Held → Field → Line
 line_at p (whole k c) = (turn_of p.state (world_in p).storage k c).line
@@ -112,27 +109,25 @@ calls_in (whole kind.Setup c ∷ fs) = calls_in fs
 calls_in (whole kind.Message c ∷ fs) = message c ∷ calls_in fs
 calls_in (whole kind.Clock c ∷ fs) = clock (clock_of c) ∷ calls_in fs
 calls_in (whole kind.Alive c ∷ fs) = alive c ∷ calls_in fs
-calls_in (whole kind.Bad c ∷ fs) = calls_in fs
 
 -- "P answer verdict held length (…; length of a delivery, otherwise 0)", but with 17 an age (02, Item 6); "C answer, dropped map, dead map …; A answer":
 -- by what is told of the answer. The program asks no question.
-abbrev pub line_told : (e : Event) → Said e → Line
+abbrev pub line_told : (e : Event) → Said e → List Line
 line_told (message packet) r =
     let t = message_told r.0 in
-    line.Message t.outcome.number t.outcome.verdict t.held (length_shown t.outcome (length r.1))
-line_told (alive packet) r = line.Alive (call_number r.call)
-line_told (clock now) r = line.Clock (clock_told r).number (clock_told r).dropped (clock_told r).dead
-line_told (aside call) r = line.Nothing
+    line.Message t.outcome.number t.outcome.verdict t.held (length_shown t.outcome (length r.1)) ∷ []
+line_told (alive packet) r = line.Alive (call_number r.call) ∷ []
+line_told (clock now) r = line.Clock (clock_told r).number (clock_told r).dropped (clock_told r).dead ∷ []
+line_told (aside call) r = []
 
 -- The lines of a run without an accepted setup: "S answer" is "S 10" then.
 unfoldable pub lines_told : (fs : List Field) → Answers (calls_in fs) → List Line
 unfolding calls_in
 lines_told [] rs = []
 lines_told (whole kind.Setup c ∷ fs) rs = line.Setup 10 ∷ lines_told fs rs
-lines_told (whole kind.Message c ∷ fs) rs = line_told (message c) rs.0 ∷ lines_told fs rs.1
-lines_told (whole kind.Clock c ∷ fs) rs = line_told (clock (clock_of c)) rs.0 ∷ lines_told fs rs.1
-lines_told (whole kind.Alive c ∷ fs) rs = line_told (alive c) rs.0 ∷ lines_told fs rs.1
-lines_told (whole kind.Bad c ∷ fs) rs = line.End ∷ lines_told fs rs
+lines_told (whole kind.Message c ∷ fs) rs = line_told (message c) rs.0 ++ lines_told fs rs.1
+lines_told (whole kind.Clock c ∷ fs) rs = line_told (clock (clock_of c)) rs.0 ++ lines_told fs rs.1
+lines_told (whole kind.Alive c ∷ fs) rs = line_told (alive c) rs.0 ++ lines_told fs rs.1
 
 -- ---- between two setups
 
@@ -142,7 +137,6 @@ StateStays (whole kind.Setup c) = setup_within (setup_of c) ≡ false
 StateStays (whole kind.Message c) = Unit {0}
 StateStays (whole kind.Clock c) = Unit {0}
 StateStays (whole kind.Alive c) = Unit {0}
-StateStays (whole kind.Bad c) = ⊥
 
 abbrev pub AllOf : (Field → Type 0) → List Field → Type 0
 AllOf P [] = Unit {0}
@@ -188,25 +182,22 @@ pub record OfPast (p : Held) : Type 0 where
   pub fits : Fits p
 
 abbrev pub EveryRun : Type 0
-EveryRun = (room : List ℕ) → length room ≡ 4 * area → (fs : List Field) → AllOf IsGood fs → OfPast (ran (at_first room) fs)
+EveryRun = (room : List ℕ) → length room ≡ 4 * area → (fs : List Field) → OfPast (ran (at_first room) fs)
 
 -- What is held is what a run of n whole fields left, from the empty state and this room on: the loop of the program
 -- keeps to it. Which fields they are no contract can say, since none says what was read.
 pub record OfRun (room : List ℕ) (n : ℕ) (p : Held) : Type 0 where
   pub room_for_four : length room ≡ 4 * area
   pub fields : List Field
-  pub good : AllOf IsGood fields
   pub as_many : length fields ≡ n
   pub left : p ≡ ran (at_first room) fields
 
 -- Whatever was read: if the run goes on, a whole field was at its front, and the turn is that field's.
-pub record IsTurn (p : Held) (s : List ℕ) : Type 0 where
-  pub kind : Kind
-  pub size : ℕ
-  pub at_front : next_of s ≡ next.Whole kind size
-  pub good : IsGood (whole kind (contents_of s size))
-  pub says : (turn_in p s).line ≡ line_at p (whole kind (contents_of s size))
-  pub leaves : left_by p s ≡ left_at p (whole kind (contents_of s size))
+pub record IsTurn (p : Held) (s : List ℕ) (t : Turn) : Type 0 where
+  pub field : Whole
+  pub at_front : next_of s ≡ Ok (Some field)
+  pub says : t.line ≡ line_at p (whole field.kind (contents_of s field.size))
+  pub leaves : left_by p s t ≡ left_at p (whole field.kind (contents_of s field.size))
 
 abbrev pub EveryTurn : Type 0
-EveryTurn = (p : Held) (s : List ℕ) → (turn_in p s).on ≡ true → IsTurn p s
+EveryTurn = (p : Held) (s : List ℕ) (t : Turn) → turn_in p s ≡ Ok (Some t) → IsTurn p s t

@@ -1,27 +1,26 @@
 -- What the cutter writes has a possible cut, with the place and length that the joiner will compute, and its pieces in
 -- order are the message. Assumes nothing.
-use Rattle.std.specs.Prelude.{◌≡◌, ◌≢◌, true, false, cond, ◌&&◌, List, ℕ, ◌+◌, ◌-◌, ◌*◌, ◌%◌, ◌≤◌, ◌<◌, length, take, drop}
+use Rattle.std.specs.Prelude.{◌≡◌, true, false, cond, ◌&&◌, List, Ok, Err, ℕ, ◌+◌, ◌-◌, ◌*◌, ◌%◌, ◌≤◌, ◌<◌, length, take, drop}
 use Rattle.std.proofs.Math.Path.{refl, ap}
 use Rattle.std.proofs.Common.{◌∙◌, length-append}
 use Rattle.std.proofs.Math.Logic.{⊎_elim}
-use Rattle.std.proofs.Math.Bool.{and-false}
 use Rattle.std.proofs.Math.Nat.{mul-le-mul_right, mul-mod_right, mul-div_right, zero-mul}
 use native.Mathlib.Omega.{arith}
 use Rattle.std.proofs.Math.Dec.{eqb, leb, ltb}
-use borrow.Author.Tests.{leb-true, eq-eqb, ne_eqb, le-leb, lt-leb, lt-ltb, le-ltb}
-use Rattle.octets.specs.Split.{lt_or_le, true_or_false, both, and_left, and_right}
+use borrow.Author.Tests.{leb-true, eq-eqb, ne_eqb, le-leb, lt-ltb, le-ltb}
+use Rattle.octets.specs.Split.{lt_or_le, both, and_left, and_right}
 use Rattle.octets.specs.Run.{run, laid}
 use Rattle.octets.proofs.RunLaws.{length_run}
+use Rattle.refusal.specs.declared.Refusal.TheVariants.{Writing}
 use Rattle.header.specs.declared.Cut.{Cut}
 use Rattle.header.specs.declared.Given.{Given}
 use Rattle.header.specs.Head.{header, headed}
 use Rattle.header.proofs.HeadLaws.{headed_laid, length_header}
 use Rattle.header.specs.Places.{header_size}
-use Rattle.cut.specs.declared.cutter.Cutting.TheVariants.{Written, Refused}
 use Rattle.cut.specs.Pieces.{most_octets, least_unit, most_unit, pieces, piece_place, piece_length, piece}
 use Rattle.cut.proofs.PiecesLaws.{pieces_one, pieces_two, pieces_cover, pieces_below, pieces_most, length_front, length_last, length_only, place_within, piece_end, length_most}
 use Rattle.cut.specs.Possible.{message_length, own_length, unit, own_place, is_unit, sizes_within, front_possible, last_possible, possible}
-use Rattle.cut.specs.Cutter.{cut_for, head_for, pdu, given_within, piece_within, limits_within, cuts, cutter_answer, cutter_buffer}
+use Rattle.cut.specs.Cutter.{cut_for, head_for, pdu, piece_within, limits_within, cuts, cutter_answer, cutter_buffer}
 
 -- ---- n, u and the piece number within their limits
 
@@ -49,20 +48,6 @@ within_facts n u c e =
       first = leb-true 1 c (and_right (a && b) d x);
       last = leb-true c (pieces n u) (and_right (a && b && d) f e);
     }
-
--- Whatever is within its limits has a piece, so a count of 0 can stand for what is not.
-module _ (n u c t : ℕ) (e : t ≡ cond (piece_within n u c) (pieces n u) 0) where
-  pub counted_none : t ≡ 0 → piece_within n u c ≡ false
-  counted_none z = ⊎_elim
-      (λ (yes : piece_within n u c ≡ true). let w = within_facts n u c yes in absurd (omega (arith, rw yes at e)))
-      (λ no. no)
-      (true_or_false (piece_within n u c))
-
-  pub counted_some : t ≢ 0 → (piece_within n u c ≡ true) × (t ≡ pieces n u)
-  counted_some some = ⊎_elim
-      (λ (yes : piece_within n u c ≡ true). (yes, rw yes at e))
-      (λ (no : piece_within n u c ≡ false). absurd (some (rw no at e)))
-      (true_or_false (piece_within n u c))
 
 module _ (n u c : ℕ) (w : Within n u c) where
   pos : 1 ≤ u
@@ -109,35 +94,16 @@ pdu_written g m u c b w room start own e f h l =
 -- ---- the answer and the buffer, by the tests
 
 module _ (g : Given) (m : List ℕ) (u c : ℕ) where
-  pub refused_piece : (room : ℕ) → piece_within (length m) u c ≡ false → cuts g m u c room ≡ false
-  unfolding cuts
-  refused_piece room e = rw (e, and-false (given_within g))
-
-  pub refused_given : (room : ℕ) → given_within g ≡ false → cuts g m u c room ≡ false
-  unfolding cuts
-  refused_given room e = rw e
-
-  pub refused_short : (room : ℕ) → room < header_size + piece_length (length m) u c → cuts g m u c room ≡ false
-  unfolding cuts
-  refused_short room h = rw (lt-leb (header_size + piece_length (length m) u c) room h, and-false (limits_within g (length m) u c))
-
   pub cuts_all : (room : ℕ) → limits_within g (length m) u c ≡ true → header_size + piece_length (length m) u c ≤ room → cuts g m u c room ≡ true
   unfolding cuts
   cuts_all room e h = rw (e, le-leb (header_size + piece_length (length m) u c) room h)
 
-  -- The same of what the code has in its locals once every test has passed.
-  pub cuts_tested : (room t : ℕ) (k : Cut) → t ≡ cond (piece_within (length m) u c) (pieces (length m) u) 0 → t ≢ 0 → given_within g ≡ true
-      → k ≡ cut_for (length m) u c → k.bsize ≤ room → cuts g m u c room ≡ true
-  cuts_tested room t k count some given is fits =
-      let piece = (counted_some (length m) u c t count some).0 in
-      cuts_all room (both (given_within g) (piece_within (length m) u c) given piece) (omega (arith, bsize_is (length m) u c is))
-
-  pub cutter_refused : (b : List ℕ) → cuts g m u c (length b) ≡ false → (Refused ≡ cutter_answer g m u c (length b)) × (b ≡ cutter_buffer g m u c b)
+  pub cutter_refused : (b : List ℕ) → cuts g m u c (length b) ≡ false → (Err Writing ≡ cutter_answer g m u c (length b)) × (b ≡ cutter_buffer g m u c b)
   unfolding cutter_answer cutter_buffer
   cutter_refused b e = (rw e, rw e)
 
   pub cutter_written : (b : List ℕ) → cuts g m u c (length b) ≡ true
-      → (Written (header_size + piece_length (length m) u c) ≡ cutter_answer g m u c (length b)) × (laid b 0 (pdu g m u c) ≡ cutter_buffer g m u c b)
+      → (Ok (header_size + piece_length (length m) u c) ≡ cutter_answer g m u c (length b)) × (laid b 0 (pdu g m u c) ≡ cutter_buffer g m u c b)
   unfolding cutter_answer cutter_buffer
   cutter_written b e = (rw e, rw e)
 

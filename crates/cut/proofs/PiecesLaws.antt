@@ -3,8 +3,8 @@ use Rattle.std.specs.Prelude.{◌≡◌, refl, ◌⊎◌, cond, ltb, length}
 use Rattle.std.proofs.Math.Path.{sym, ap}
 use Rattle.std.proofs.Common.{◌∙◌, inl, inr, ⊎_elim, suc-mul, mul-le-mul, mul-le-mul_right, lt_of_le_of_lt, div-mul-le_self, le-leb, lt-ltb, le-ltb}
 use mathlib.Core.List.{List, ◌++◌}
-use Prim.Native.Nat.{ℕ, zero, suc, ◌+◌, ◌-◌, ◌*◌, ◌/◌, ◌≤◌, ◌<◌, min}
-use Rattle.std.proofs.Math.Nat.{lt-div-mul-add, zero-mul}
+use Prim.Native.Nat.{ℕ, zero, suc, ◌+◌, ◌-◌, ◌*◌, ◌/◌, ◌%◌, ◌≤◌, ◌<◌, min}
+use Rattle.std.proofs.Math.Nat.{lt-div-mul-add, zero-mul, div-add-mod, mul-add-div, div-eq_of_lt, mod-lt}
 use native.Mathlib.Omega.{arith}
 use Rattle.std.proofs.Math.ListN.{take}
 use Rattle.std.proofs.Math.Seq.{take_all}
@@ -22,6 +22,19 @@ pub product_below : (a b k l : ℕ) {m : ℕ} → a ≤ k → b ≤ l → k * l 
 product_below a b k l h g f = lt_of_le_of_lt (mul-le-mul {n₁ = a} {m₁ = b} {n₂ = k} {m₂ = l} h g) f
 
 -- ---- how many
+
+-- A quotient rounded up is one more than the quotient where something is left.
+pub rounded_up : (n u : ℕ) → 1 ≤ u → (n + (u - 1)) / u ≡ n / u + min 1 (n % u)
+rounded_up n u pos = ⊎_elim
+    (λ (none : n % u < 1).
+    let e : n + (u - 1) ≡ u * (n / u) + (u - 1) = omega (arith, div-add-mod n u) in
+    let less : (u - 1) / u ≡ 0 = div-eq_of_lt (omega arith) in
+    rw (e, mul-add-div pos (n / u) (u - 1), less) (omega arith))
+    (λ (some : 1 ≤ n % u).
+    let e : n + (u - 1) ≡ u * (n / u + 1) + (n % u - 1) = omega (arith, div-add-mod n u) in
+    let less : (n % u - 1) / u ≡ 0 = div-eq_of_lt (omega (arith, mod-lt n pos)) in
+    rw (e, mul-add-div pos (n / u + 1) (n % u - 1), less) (omega arith))
+    (lt_or_le (n % u) 1)
 
 pub pieces_one : (n u : ℕ) → n ≤ u → pieces n u ≡ 1
 unfolding pieces

@@ -13,10 +13,9 @@ use Rattle.header.specs.declared.Given.{Given}
 use Rattle.header.specs.Codes.{is_data_field, is_node, is_user, is_mode, is_pri}
 use Rattle.header.proofs.CodesLaws.{user_code, code_user}
 use Rattle.header.specs.Places.{header_size}
-use Rattle.header.specs.Places.Field.{ml, node, tcd, mode, pri, cbn, tbn, bsize}
 use Rattle.cut.specs.Cutter.{given_within, piece_within, cuts}
 use Rattle.cut.proofs.CutterLaws.{Within, cut_possible, cuts_all}
-use Rattle.cut.specs.Pieces.{most_octets, least_unit, most_unit, pieces, piece_length, piece}
+use Rattle.cut.specs.Pieces.{most_octets, least_unit, most_unit, pieces, piece_length}
 use Rattle.cut.proofs.PiecesLaws.{times, pieces_one, pieces_cover, pieces_below, pieces_only, pieces_some, pieces_most, length_front, length_last, length_only}
 use Rattle.cut.specs.Possible.{message_length, own_length, unit, is_unit, possible}
 use Rattle.cut.proofs.PossibleLaws.{Possible, possible_facts, Several, possible_several}

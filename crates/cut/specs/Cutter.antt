@@ -1,6 +1,10 @@
 -- The cutter: "writes one PDU by its number. Octets behind it in the buffer stay."
-use Rattle.std.specs.Prelude.{ℕ, ◌+◌, ◌^◌, ◌<◌, Bool, cond, ◌&&◌, List, ◌++◌, leb, length}
+use Rattle.std.specs.Prelude.{ℕ, ◌+◌, ◌^◌, ◌<◌, Bool, cond, ◌&&◌, List, ◌++◌, Result, Ok, Err, leb, length}
+use Rattle.std.specs.Result.{result_unwrap_or}
 use Rattle.octets.specs.Run.{laid}
+use Rattle.refusal.specs.declared.Refusal.{Refusal}
+use Rattle.refusal.specs.declared.Refusal.TheVariants.{Writing}
+use Rattle.refusal.specs.Numbers.{number_in}
 use Rattle.ring.specs.Ring.{is_number}
 use Rattle.header.specs.declared.Cut.{Cut}
 use Rattle.header.specs.declared.Given.{Given}
@@ -8,8 +12,6 @@ use Rattle.header.specs.declared.Head.{Head}
 use Rattle.header.specs.Codes.{is_data_field, is_node, is_user, is_mode, is_pri}
 use Rattle.header.specs.Head.{header}
 use Rattle.header.specs.Places.{header_size}
-use Rattle.cut.specs.declared.cutter.Cutting.{Cutting}
-use Rattle.cut.specs.declared.cutter.Cutting.TheVariants.{Written, Refused}
 use Rattle.cut.specs.Pieces.{most_octets, pieces, piece_length, piece}
 use Rattle.cut.specs.Possible.{is_unit}
 
@@ -53,14 +55,13 @@ unfoldable pub cutter_buffer : Given → List ℕ → ℕ → ℕ → List ℕ �
 cutter_buffer g m u c b = cond (cuts g m u c (length b)) (laid b 0 (pdu g m u c)) b
 
 -- The answer, with the PDU's length.
-unfoldable pub cutter_answer : Given → List ℕ → ℕ → ℕ → ℕ → Cutting
-cutter_answer g m u c room = cond (cuts g m u c room) (Written (header_size + piece_length (length m) u c)) Refused
+unfoldable pub cutter_answer : Given → List ℕ → ℕ → ℕ → ℕ → Result ℕ Refusal
+cutter_answer g m u c room = cond (cuts g m u c room) (Ok (header_size + piece_length (length m) u c)) (Err Writing)
 
 -- This paper's number for each case, and the PDU's length: "0 stored, done or written"; 23 says nothing more.
 pub record CutterTold : Type 0 where
   pub number : ℕ
   pub length : ℕ
 
-abbrev pub cutter_told : Cutting → CutterTold
-cutter_told (Written k) = record { number = 0; length = k }
-cutter_told Refused = record { number = 23; length = 0 }
+abbrev pub cutter_told : Result ℕ Refusal → CutterTold
+cutter_told a = record { number = number_in a; length = result_unwrap_or a 0 }

@@ -11,6 +11,7 @@ pub const LEAST_UNIT: u32 = 256;
 pub const MOST_UNIT: u32 = 1_396;
 
 // One piece where n is at most u, otherwise n / u rounded up. No message has pieces of 0 octets.
+#[tactic(auto, using(crate::proofs::PiecesLaws::rounded_up), unfolding(crate::specs::Pieces::pieces))]
 pub fn pieces(n: usize, u: u16) -> usize
     ensures { result ≡ pieces_of n u }
 {
@@ -21,20 +22,18 @@ pub fn pieces(n: usize, u: u16) -> usize
     if unit == 0 {
         return 0;
     }
-    (n - 1) / unit + 1
+    n.div_ceil(unit)
 }
 
 // Where piece c starts in the message.
 pub fn piece_place(u: u16, c: u8) -> usize
     ensures { result ≡ piece_place u c }
 {
-    if c == 0 {
-        return 0;
-    }
-    ((c - 1) as usize) * (u as usize)
+    c.saturating_sub(1) as usize * u as usize
 }
 
 // All pieces but the last carry u octets, the last carries the rest.
+#[tactic(auto, using(crate::proofs::PiecesLaws::length_counted))]
 pub fn piece_length(n: usize, u: u16, c: u8) -> usize
     ensures { result ≡ piece_length n u c }
 {
@@ -49,5 +48,5 @@ pub fn length_among(n: usize, u: u16, c: u8, t: usize) -> usize
         return u as usize;
     }
     let start = piece_place(u, c);
-    if start <= n { n - start } else { 0 }
+    n.saturating_sub(start)
 }

@@ -13,24 +13,18 @@ const MOST: u32 = MOST_OCTETS as u32;
 pub fn message_length(c: Cut) -> u32
     ensures { result ≡ message_length c }
 {
-    less(c.ml, HEADER)
+    c.ml.saturating_sub(HEADER)
 }
 
 // p, the piece's own length.
 pub fn own_length(c: Cut) -> u32
     ensures { result ≡ own_length c }
 {
-    less(c.bsize as u32, HEADER)
-}
-
-// a - b, and 0 where b is larger.
-fn less(a: u32, b: u32) -> u32
-    ensures { result ≡ a - b }
-{
-    if b <= a { a - b } else { 0 }
+    (c.bsize as u32).saturating_sub(HEADER)
 }
 
 // u, the length of every piece but the last.
+#[tactic(auto, unfolding(crate::specs::Possible::unit))]
 pub fn unit(c: Cut) -> u32
     ensures { result ≡ unit_of c }
 {
@@ -50,19 +44,17 @@ fn last_unit(c: Cut) -> u32
     if c.tbn <= 1 {
         return 0;
     }
-    less(message_length(c), own_length(c)) / ((c.tbn - 1) as u32)
+    message_length(c).saturating_sub(own_length(c)) / ((c.tbn - 1) as u32)
 }
 
 // Where the piece starts in the message.
 pub fn own_place(c: Cut) -> u64
     ensures { result ≡ own_place c }
 {
-    if c.cbn == 0 {
-        return 0;
-    }
-    ((c.cbn - 1) as u64) * (unit(c) as u64)
+    c.cbn.saturating_sub(1) as u64 * unit(c) as u64
 }
 
+#[tactic(auto, using(crate::proofs::PossibleLaws::judged_by_unit), unfolding(crate::specs::Possible::possible))]
 pub fn possible(c: Cut) -> bool
     ensures { result ≡ is_possible c }
 {
@@ -107,6 +99,7 @@ fn piece_possible(n: u32, p: u32, c: u8, t: u8) -> bool
 }
 
 // Whether a message of n octets can be cut into t pieces of u, t more than one.
+#[tactic(auto, unfolding(crate::specs::Possible::several_possible))]
 pub fn several(n: u32, t: u8, u: u32) -> bool
     ensures { result ≡ several_possible n t u }
 {
@@ -127,6 +120,7 @@ pub fn is_unit(u: u32) -> bool
 }
 
 // A piece before the last. What stands before the last piece is multiplied once.
+#[tactic(auto, unfolding(crate::specs::Possible::front_possible))]
 fn front_possible(n: u32, t: u8, u: u32) -> bool
     requires { 1 ≤ t }
     ensures { result ≡ front_possible n t u }
@@ -142,6 +136,7 @@ fn front_possible(n: u32, t: u8, u: u32) -> bool
 }
 
 // The last piece of several: what stands before it is divided once.
+#[tactic(auto, unfolding(crate::specs::Possible::last_possible))]
 fn last_possible(n: u32, t: u8, p: u32) -> bool
     requires { 2 ≤ t }
     ensures { result ≡ last_possible n t p ((n - p) / (t - 1)) }

@@ -5,10 +5,11 @@
 
 mod calls;
 
-ghost use Rattle.std.specs.Prelude.{◌≡◌, ◌≤◌, length};
+ghost use Rattle.std.specs.Prelude.{◌≤◌};
 
 use calls::call;
 use edges_calls::look;
+use edges_lines::Field;
 use edges_multicast::{ENTRIES, table_call};
 use io::read_full;
 use octets::{from, read1, read2};
@@ -20,12 +21,15 @@ const STDIN: i32 = 0;
 // The octets in front of a field's contents: its tag and its length.
 const HEAD: usize = 3;
 
+// The most octets of a field, with its head.
+const FIELD: usize = 65_538;
+
 fn main() {
     // "The storage: 262,144 octets (16 × 16,384)."
     let mut storage = [0u8; 262_144];
     let mut versions = [0u32; ENTRIES];
     let mut numbers = [0u32; ENTRIES];
-    let mut field = [0u8; 65_538];
+    let mut field = [0u8; FIELD];
     run(&mut storage, &mut versions, &mut numbers, &mut field);
 }
 
@@ -34,31 +38,28 @@ fn run(
     storage: &mut [u8],
     versions: &mut [u32; ENTRIES],
     numbers: &mut [u32; ENTRIES],
-    field: &mut [u8],
-)
-    requires { length field.old ≡ 65538 }
-{
+    field: &mut [u8; FIELD],
+) {
     let mut w = Receiver::empty();
     // A proved loop has to end, and nothing says that an input does: no run uses these turns up.
-    let mut turns = u64::MAX;
-    while turns > 0 {
+    for _ in 0..u64::MAX {
         let read = read_field(field);
         if read == 0 {
             return;
         }
-        let next = &field[0..read];
-        let tag = read1(next, 0);
-        let contents = from(next, HEAD);
-        look(w, storage, tag, contents);
-        table_call(w, versions, numbers, tag, contents);
-        w = call(w, storage, tag, contents);
-        turns -= 1;
+        let octets = &field[0..read];
+        let next = Field {
+            tag: read1(octets, 0),
+            contents: from(octets, HEAD),
+        };
+        look(w, storage, next);
+        table_call(w, versions, numbers, next);
+        w = call(w, storage, next);
     }
 }
 
 // Reads the next field to the front of the buffer and answers how many octets it is, 0 at the input's end.
-fn read_field(field: &mut [u8]) -> usize
-    requires { length field.old ≡ 65538 }
+fn read_field(field: &mut [u8; FIELD]) -> usize
     ensures { result ≤ 65538 }
 {
     if read_full(STDIN, &mut field[..HEAD]) < HEAD {

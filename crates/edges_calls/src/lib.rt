@@ -1,29 +1,31 @@
-// The calls of docs/EDGES.md that leave the state as it is, each with its lines: the question, how many pieces are held,
-// the cutter, the part that is handed over, the next field, the state shown, a fault section; and the line of a message
-// call, which hands over a part too.
+// The calls of docs/EDGES.md that leave the state as it is, each with its lines: the question, how many pieces are
+// held, the cutter, the part that is handed over, the next field, the state shown, a fault section; and the line of a
+// message call, which hands over a part too.
 //
 // No contract can say what is written, so these functions have none: they answer nothing, and nothing is lent to them
 // to write.
 #![tactic(auto)]
 
 use answers::{Answer, Where};
-use capture_fields::{Kind, Next, next_field};
+use capture_fields::{Kind, Unread, next_field};
 use cut::cutter::cutter;
 use edges_fault::fault_call;
 use edges_lines::calls::{message_line, question_line, written_line};
 use edges_lines::record::state_lines;
-use edges_lines::{line, octets_line, sum, title};
+use edges_lines::{Field, line, octets_line, sum, title};
 use header::codes::{DataField, Node};
 use header::{Given, SIZE};
 use octets::{from, read1, read2, read4, read8, run};
 use question::question;
 use receiver::part::part;
+use refusal::number_in;
 use ring::{Number, Version};
 use state::Receiver;
 
 // The call of a field by its tag, none for any other.
-pub fn look<'a>(w: Receiver, storage: &'a [u8], tag: u8, contents: &'a [u8]) {
-    match tag {
+pub fn look(w: Receiver, storage: &[u8], field: Field) {
+    let contents = field.contents;
+    match field.tag {
         b'#' => title(contents),
         b'Q' => question_call(w),
         b'H' => held_call(w, contents),
@@ -31,7 +33,7 @@ pub fn look<'a>(w: Receiver, storage: &'a [u8], tag: u8, contents: &'a [u8]) {
         b'K' => cut_call(contents),
         b'R' => part_call(storage, contents),
         b'F' => field_call(contents),
-        _ => fault_call(tag, contents),
+        _ => fault_call(field),
     }
 }
 
@@ -53,18 +55,18 @@ fn held_call(w: Receiver, contents: &[u8]) {
 fn cut_call(contents: &[u8]) {
     let mut buffer = [170u8; 1_473];
     let room = (read2(contents, 0) % 1_474) as usize;
-    cut_into(&mut buffer[0..room], contents);
+    cut_into(&mut buffer[..room], contents);
 }
 
 fn cut_into(buffer: &mut [u8], contents: &[u8]) {
-    let cutting = cutter(
+    let cut = cutter(
         given_in(contents),
         from(contents, 29),
         read2(contents, 2),
         read1(contents, 4),
         buffer,
     );
-    cutting_lines(cutting.number(), cutting.length(), buffer);
+    cutting_lines(number_in(cut), cut.unwrap_or(0), buffer);
 }
 
 fn given_in(contents: &[u8]) -> Given {
@@ -90,7 +92,7 @@ fn cutting_lines(number: u8, length: u16, buffer: &[u8]) {
 
 // ---- part
 
-fn part_call<'a>(storage: &'a [u8], contents: &'a [u8]) {
+fn part_call(storage: &[u8], contents: &[u8]) {
     let lent = read4(contents, 17) as usize;
     let handed = part(
         where_in(contents),
@@ -101,8 +103,7 @@ fn part_call<'a>(storage: &'a [u8], contents: &'a [u8]) {
 }
 
 fn where_in(contents: &[u8]) -> Where {
-    let kind = read1(contents, 0);
-    match kind {
+    match read1(contents, 0) {
         0 => Where::Nothing,
         1 => Where::Packet,
         _ => Where::Storage {
@@ -115,40 +116,26 @@ fn where_in(contents: &[u8]) -> Where {
 // ---- the line of a message call
 
 // Of its answer, and of the storage and the packet that were lent to it.
-pub fn message_lines<'a>(tag: u8, a: Answer, storage: &'a [u8], packet: &'a [u8]) {
-    let outcome = a.outcome;
-    let dropped = a.dropped;
-    let lies = a.lies;
-    let delivered = part(lies, packet, storage);
+pub fn message_lines(tag: u8, a: Answer, storage: &[u8], packet: &[u8]) {
+    let delivered = part(a.lies, packet, storage);
     let counted = [delivered.len() as u64, sum(delivered), sum(storage)];
-    message_line(tag, outcome, a.held, dropped, counted);
+    message_line(tag, a.outcome, a.held, a.dropped, counted);
 }
 
 // ---- the next field
 
 fn field_call(octets: &[u8]) {
-    let next = next_field(octets);
-    match next {
-        Next::Nothing => line(b'F', &[0, 0, 0, 7]),
-        Next::Cut => line(b'F', &[1, 0, 0, 7]),
-        Next::Bad => line(b'F', &[2, 0, 0, 7]),
-        Next::Whole { kind, size } => whole_line(kind, capture_fields::contents(octets, size)),
+    match next_field(octets) {
+        Ok(None) => line(b'F', &[0, 0, 0, 7]),
+        Err(Unread::Cut) => line(b'F', &[1, 0, 0, 7]),
+        Err(Unread::Bad) => line(b'F', &[2, 0, 0, 7]),
+        Ok(Some(field)) => { whole_line(field.kind, capture_fields::contents(octets, field.size)) }
     }
 }
 
 fn whole_line(kind: Kind, contents: &[u8]) {
     line(
         b'F',
-        &[3, tag_of(kind), contents.len() as u64, sum(contents)],
+        &[3, kind as u64, contents.len() as u64, sum(contents)],
     );
-}
-
-fn tag_of(kind: Kind) -> u64 {
-    match kind {
-        Kind::Setup => 1,
-        Kind::Message => 2,
-        Kind::Clock => 3,
-        Kind::Alive => 4,
-        Kind::Bad => 0,
-    }
 }

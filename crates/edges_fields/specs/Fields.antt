@@ -10,14 +10,14 @@ use Rattle.state.specs.declared.Sender.{Sender}
 use Rattle.state.specs.State.{senders_most, with_senders}
 
 -- "data field (1) and node (2)"
-unfoldable pub address_in : List ℕ → Address
+abbrev pub address_in : List ℕ → Address
 address_in s = record { field = record { 0 = number 1 s 0 }; node = record { 0 = number 2 s 1 } }
 
 abbrev pub group_at : List ℕ → ℕ → Group
 group_at s at = record { 0 = number 1 s at }
 
 -- "number of groups (1), the eight group places (1 each)"
-unfoldable pub groups_in : List ℕ → Groups
+abbrev pub groups_in : List ℕ → Groups
 groups_in s = record {
   count = number 1 s 0;
   list = group_at s 1 ∷ group_at s 2 ∷ group_at s 3 ∷ group_at s 4 ∷ group_at s 5 ∷ group_at s 6 ∷ group_at s 7 ∷ group_at s 8 ∷ [];
@@ -25,7 +25,7 @@ groups_in s = record {
 
 -- "test (1), n1 (2), t (4), clock (8), count (1), number of groups (1), the eight group places (1 each) of the state in use become
 -- these"
-unfoldable pub with_settings : Receiver → List ℕ → Receiver
+abbrev pub with_settings : Receiver → List ℕ → Receiver
 with_settings w s = record {
   test = eqb (number 1 s 0) 1;
   n1 = number 2 s 1;
@@ -38,7 +38,7 @@ with_settings w s = record {
 
 -- "place (1), field (1), node (2), rv (4), r (4), open (1), version (4), number (4), tcd (2), n (2), tbn (1), u (2), map (8), held (1),
 -- stamp (8), alive (1), heard-stamp (8), al_tm_out (4)"
-unfoldable pub message_in : List ℕ → Message
+abbrev pub message_in : List ℕ → Message
 message_in s = record {
   version = record { 0 = number 4 s 13 };
   number = record { 0 = number 4 s 17 };
@@ -51,7 +51,7 @@ message_in s = record {
   stamp = number 8 s 37;
 }
 
-unfoldable pub sender_in : List ℕ → Sender
+abbrev pub sender_in : List ℕ → Sender
 sender_in s = record {
   address = address_in (drop 1 s);
   last = record { version = record { 0 = number 4 s 4 }; number = record { 0 = number 4 s 8 } };
@@ -62,5 +62,5 @@ sender_in s = record {
 }
 
 -- "the record at a place becomes this one": a state has 16 places.
-unfoldable pub damaged_sender : Receiver → List ℕ → Receiver
+abbrev pub damaged_sender : Receiver → List ℕ → Receiver
 damaged_sender w s = with_senders w (set w.senders (number 1 s 0 % senders_most) (sender_in s))

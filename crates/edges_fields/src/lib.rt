@@ -13,8 +13,9 @@ use header::codes::{DataField, Node};
 use octets::{from, read1, read2, read4, read8};
 use ring::{Number, Version};
 use state::{Address, Heard, Last, Message, Receiver, Sender};
+use std::array;
 
-// The address from a place on.
+// The address from a place on; `capture_fields` has its own, since `state`, below both, reads no octets.
 pub fn address_in(contents: &[u8], at: usize) -> Address
     ensures { result ≡ address_in (drop at contents.now) }
 {
@@ -32,16 +33,7 @@ pub fn groups_in(contents: &[u8], at: usize) -> Groups
     let here = from(contents, at);
     Groups {
         count: read1(here, 0),
-        list: [
-            Group(read1(here, 1)),
-            Group(read1(here, 2)),
-            Group(read1(here, 3)),
-            Group(read1(here, 4)),
-            Group(read1(here, 5)),
-            Group(read1(here, 6)),
-            Group(read1(here, 7)),
-            Group(read1(here, 8)),
-        ],
+        list: array::from_fn(|i| Group(read1(here, 1 + i))),
     }
 }
 
@@ -55,17 +47,14 @@ pub fn with_settings(mut w: Receiver, contents: &[u8]) -> Receiver
     w.t = read4(contents, 3);
     w.clock = read8(contents, 7);
     w.count = read1(contents, 15);
-    let groups = groups_in(contents, 16);
-    w.groups = groups;
+    w.groups = groups_in(contents, 16);
     w
 }
 
 pub fn with_sender(mut w: Receiver, contents: &[u8]) -> Receiver
     ensures { result ≡ damaged_sender w contents.now }
 {
-    let at = place_in(contents);
-    let s = sender_in(contents);
-    w.senders[at] = s;
+    w.senders[place_in(contents)] = sender_in(contents);
     w
 }
 
@@ -78,23 +67,19 @@ fn place_in(contents: &[u8]) -> usize
 fn sender_in(contents: &[u8]) -> Sender
     ensures { result ≡ sender_in contents.now }
 {
-    let source = address_in(contents, 1);
-    let last = Last {
-        version: Version(read4(contents, 4)),
-        number: Number(read4(contents, 8)),
-    };
-    let message = message_in(contents);
-    let heard = Heard {
-        stamp: read8(contents, 46),
-        timeout: read4(contents, 54),
-    };
     Sender {
-        address: source,
-        last,
+        address: address_in(contents, 1),
+        last: Last {
+            version: Version(read4(contents, 4)),
+            number: Number(read4(contents, 8)),
+        },
         open: read1(contents, 12) == 1,
-        message,
+        message: message_in(contents),
         alive: read1(contents, 45) == 1,
-        heard,
+        heard: Heard {
+            stamp: read8(contents, 46),
+            timeout: read4(contents, 54),
+        },
     }
 }
 

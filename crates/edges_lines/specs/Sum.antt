@@ -1,5 +1,6 @@
 -- The sum of octets, as docs/EDGES.md has it.
 use Rattle.std.specs.Prelude.{ℕ, ◌+◌, ◌*◌, ◌%◌, List, [], ◌∷◌, ◌++◌}
+use Rattle.std.specs.List.{fold}
 use Rattle.octets.specs.Number.{octets}
 
 -- "s = (31 × s + octet) mod 2^32"
@@ -7,9 +8,8 @@ unfoldable pub with_octet : ℕ → ℕ → ℕ
 with_octet s octet = (31 * s + octet) % 4294967296
 
 -- "for each octet in order"
-unfoldable pub sum_from : ℕ → List ℕ → ℕ
-sum_from s [] = s
-sum_from s (octet ∷ octets) = sum_from (with_octet s octet) octets
+abbrev pub sum_from : ℕ → List ℕ → ℕ
+sum_from s octets = fold with_octet s octets
 
 -- "s = 7"
 abbrev pub sum_of : List ℕ → ℕ

@@ -4,13 +4,21 @@
 // to it to write.
 #![tactic(auto)]
 
-ghost use Rattle.std.specs.Prelude.{◌%◌, ◌<◌, ◌≡◌};
+ghost use Rattle.std.specs.Prelude.{◌≡◌};
+ghost use Rattle.octets.specs.Number.{octets};
 ghost use Rattle.edges_lines.specs.Sum.{with_octet, sum_from, sum_of, in_octets};
 
 pub mod calls;
 pub mod record;
 
-use octets::{from, read1, write4};
+use octets::{read1, write4};
+
+// A field of docs/EDGES.md: the call's tag, and what the call is made of.
+#[derive(Clone, Copy)]
+pub struct Field<'a> {
+    pub tag: u8,
+    pub contents: &'a [u8],
+}
 
 // "the title stands there as on this page"
 pub fn title(octets: &[u8]) {
@@ -28,43 +36,30 @@ pub fn line(letter: u8, numbers: &[u64]) {
 // The same, and behind them eight octets.
 pub fn line_with_eight(letter: u8, numbers: &[u64], octets: &[u8]) {
     words(letter, numbers);
-    eight(octets);
+    octet_words(octets, 8);
     io::write_all(1, b"\n");
 }
 
 fn words(letter: u8, numbers: &[u64]) {
     io::write_all(1, &[letter]);
-    let mut i = 0;
-    while i < numbers.len() {
+    for n in numbers {
         io::write_all(1, b" ");
-        io::print_decimal(1, numbers[i]);
-        i += 1;
+        io::print_decimal(1, *n);
     }
 }
 
 // The same, of the first 64 octets.
 pub fn octets_line(letter: u8, octets: &[u8]) {
     io::write_all(1, &[letter]);
-    eight(octets);
-    eight(from(octets, 8));
-    eight(from(octets, 16));
-    eight(from(octets, 24));
-    eight(from(octets, 32));
-    eight(from(octets, 40));
-    eight(from(octets, 48));
-    eight(from(octets, 56));
+    octet_words(octets, 64);
     io::write_all(1, b"\n");
 }
 
-fn eight(octets: &[u8]) {
-    octet_word(read1(octets, 0));
-    octet_word(read1(octets, 1));
-    octet_word(read1(octets, 2));
-    octet_word(read1(octets, 3));
-    octet_word(read1(octets, 4));
-    octet_word(read1(octets, 5));
-    octet_word(read1(octets, 6));
-    octet_word(read1(octets, 7));
+// The first k octets; one that is not there is 0.
+fn octet_words(octets: &[u8], k: usize) {
+    for place in 0..k {
+        octet_word(read1(octets, place));
+    }
 }
 
 fn octet_word(octet: u8) {
@@ -82,34 +77,28 @@ pub fn sum(octets: &[u8]) -> u64
 pub fn sum_of_numbers(numbers: &[u32]) -> u64
     ensures { result ≡ sum_of (in_octets numbers.now) }
 {
-    let mut s = 7;
-    let mut i = 0;
-    while i < numbers.len() {
-        let mut octets = [0u8; 4];
-        write4(&mut octets, 0, numbers[i]);
-        s = sum_from(s, &octets);
-        i += 1;
-    }
-    s
+    numbers.iter().fold(7, |s, n| with_number(s, *n))
 }
 
 // The sum that goes on from another.
 fn sum_from(start: u64, octets: &[u8]) -> u64
-    requires { start < 4294967296 }
     ensures { result ≡ sum_from start octets.now }
 {
-    let mut s = start;
-    let mut i = 0;
-    while i < octets.len() {
-        s = with_octet(s, octets[i]);
-        i += 1;
-    }
-    s
+    octets.iter().fold(start, |s, octet| with_octet(s, *octet))
 }
 
-// A sum is below 2^32, so the first remainder alters nothing; it keeps the product within 64 bits.
+fn with_number(s: u64, number: u32) -> u64
+    ensures { result ≡ sum_from s (octets 4 number) }
+{
+    let mut four = [0u8; 4];
+    write4(&mut four, 0, number);
+    sum_from(s, &four)
+}
+
+// The first remainder alters nothing; it keeps the product within 64 bits.
+#[tactic(auto, unfolding(crate::specs::Sum::with_octet))]
 fn with_octet(s: u64, octet: u8) -> u64
-    ensures { result ≡ with_octet (s % 4294967296) octet }
+    ensures { result ≡ with_octet s octet }
 {
     (31 * (s % 4_294_967_296) + octet as u64) % 4_294_967_296
 }

@@ -1,11 +1,10 @@
 // The lines of a state: its settings, and each of its senders in table order.
-use crate::line;
-use groups::Groups;
+use crate::{line, line_with_eight};
 use state::{Receiver, Sender};
 
 pub fn state_lines(w: Receiver) {
     let g = w.groups;
-    line(
+    line_with_eight(
         b'W',
         &[
             w.test as u64,
@@ -14,37 +13,15 @@ pub fn state_lines(w: Receiver) {
             w.clock,
             w.count as u64,
             g.count as u64,
-            group_at(g, 0),
-            group_at(g, 1),
-            group_at(g, 2),
-            group_at(g, 3),
-            group_at(g, 4),
-            group_at(g, 5),
-            group_at(g, 6),
-            group_at(g, 7),
         ],
+        &g.list.map(|group| group.0),
     );
-    sender_lines(w);
-}
-
-fn group_at(groups: Groups, place: u8) -> u64 {
-    let group = groups.at(place);
-    group.0 as u64
-}
-
-fn sender_lines(w: Receiver) {
-    let count = w.count;
-    let mut i: u8 = 0;
-    while (i as usize) < Receiver::PLACES {
-        let s = w.senders[i as usize];
-        if i < count {
-            sender_line(i, s);
-        }
-        i += 1;
+    for (place, s) in w.senders.iter().enumerate().take(w.count as usize) {
+        sender_line(place, *s);
     }
 }
 
-fn sender_line(place: u8, s: Sender) {
+fn sender_line(place: usize, s: Sender) {
     let source = s.address;
     let last = s.last;
     let m = s.message;

@@ -18,11 +18,11 @@ abbrev pub numbers_lent : List ℕ → ℕ
 numbers_lent contents = number 2 contents 2 % 1041
 
 -- What the call leaves of the entries lent.
-unfoldable pub lent_cast : Receiver → Tables → List ℕ → Tables
+abbrev pub lent_cast : Receiver → Tables → List ℕ → Tables
 lent_cast w t contents = multicast_tables w t (number 1 contents 4) (drop 5 contents)
 
 -- Those behind them stay.
-unfoldable pub cast_in : Receiver → Tables → List ℕ → Tables
+abbrev pub cast_in : Receiver → Tables → List ℕ → Tables
 cast_in w t contents =
     let lent = tables (take (versions_lent contents) t.versions) (take (numbers_lent contents) t.numbers) in
     tables
@@ -37,7 +37,7 @@ damaged_by t contents =
     tables (set t.versions place (number 4 contents 2)) (set t.numbers place (number 4 contents 6))
 
 -- By the field's tag: a setup (S, s), the multicast call (M, m), damage (e); every other leaves them as they are.
-unfoldable pub tables_by : Receiver → Tables → ℕ → List ℕ → Tables
+abbrev pub tables_by : Receiver → Tables → ℕ → List ℕ → Tables
 tables_by w t tag contents =
     cond (eqb tag 83 || eqb tag 115) cleared
     (cond (eqb tag 77 || eqb tag 109) (cast_in w t contents)

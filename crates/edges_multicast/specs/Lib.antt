@@ -1,2 +1,2 @@
--- What a field leaves of the lent tables (Fields), by its tag (FieldsLaws).
+-- What a field leaves of the lent tables.
 pub mod Fields

@@ -10,7 +10,7 @@ ghost use Rattle.edges_multicast.specs.Fields.{lent_cast, cast_in, damaged_by, t
 
 use answers::GroupAnswer;
 use edges_lines::calls::multicast_line;
-use edges_lines::{line, sum, sum_of_numbers};
+use edges_lines::{Field, line, sum, sum_of_numbers};
 use groups::Group;
 use multicast::multicast;
 use octets::{from, read1, read2, read4, run};
@@ -28,19 +28,18 @@ pub fn table_call(
     w: Receiver,
     versions: &mut [u32; ENTRIES],
     numbers: &mut [u32; ENTRIES],
-    tag: u8,
-    contents: &[u8],
+    field: Field,
 )
-    ensures versions { versions.new ≡ (tables_by w (tables versions.old numbers.old) tag contents.now).versions }
-    ensures numbers { numbers.new ≡ (tables_by w (tables versions.old numbers.old) tag contents.now).numbers }
+    ensures versions { versions.new ≡ (tables_by w (tables versions.old numbers.old) field.entry.tag field.entry.contents.now).versions }
+    ensures numbers { numbers.new ≡ (tables_by w (tables versions.old numbers.old) field.entry.tag field.entry.contents.now).numbers }
 {
-    match tag {
+    match field.tag {
         b'S' | b's' => {
             *versions = [0u32; ENTRIES];
             *numbers = [0u32; ENTRIES];
         }
-        b'M' | b'm' => multicast_call(w, versions, numbers, tag, contents),
-        b'e' => damage(versions, numbers, contents),
+        b'M' | b'm' => multicast_call(w, versions, numbers, field),
+        b'e' => damage(versions, numbers, field.contents),
         b'E' => table_lines(versions, numbers),
         _ => (),
     }
@@ -49,43 +48,41 @@ pub fn table_call(
 // ---- the multicast call
 
 // As many entries are lent as the field says; those behind them stay.
-fn multicast_call(w: Receiver, versions: &mut [u32], numbers: &mut [u32], tag: u8, contents: &[u8])
+fn multicast_call(w: Receiver, versions: &mut [u32], numbers: &mut [u32], field: Field)
     requires { (length versions.old ≡ 1040) × (length numbers.old ≡ 1040) }
-    ensures versions { versions.new ≡ (cast_in w (tables versions.old numbers.old) contents.now).versions }
-    ensures numbers { numbers.new ≡ (cast_in w (tables versions.old numbers.old) contents.now).numbers }
+    ensures versions { versions.new ≡ (cast_in w (tables versions.old numbers.old) field.entry.contents.now).versions }
+    ensures numbers { numbers.new ≡ (cast_in w (tables versions.old numbers.old) field.entry.contents.now).numbers }
 {
-    let of_versions = read2(contents, 0) as usize % (ENTRIES + 1);
-    let of_numbers = read2(contents, 2) as usize % (ENTRIES + 1);
+    let of_versions = read2(field.contents, 0) as usize % (ENTRIES + 1);
+    let of_numbers = read2(field.contents, 2) as usize % (ENTRIES + 1);
     lent_call(
         w,
         &mut versions[..of_versions],
         &mut numbers[..of_numbers],
-        tag,
-        contents,
+        field,
     );
 }
 
-fn lent_call(w: Receiver, versions: &mut [u32], numbers: &mut [u32], tag: u8, contents: &[u8])
-    ensures versions { versions.new ≡ (lent_cast w (tables versions.old numbers.old) contents.now).versions }
-    ensures numbers { numbers.new ≡ (lent_cast w (tables versions.old numbers.old) contents.now).numbers }
+fn lent_call(w: Receiver, versions: &mut [u32], numbers: &mut [u32], field: Field)
+    ensures versions { versions.new ≡ (lent_cast w (tables versions.old numbers.old) field.entry.contents.now).versions }
+    ensures numbers { numbers.new ≡ (lent_cast w (tables versions.old numbers.old) field.entry.contents.now).numbers }
 {
-    let packet = from(contents, PDU);
-    let a = multicast(w, versions, numbers, Group(read1(contents, 4)), packet);
-    cast_line(tag, a, versions, numbers, packet);
+    let packet = from(field.contents, PDU);
+    let group = Group(read1(field.contents, 4));
+    let a = multicast(w, versions, numbers, group, packet);
+    cast_line(field.tag, a, versions, numbers, packet);
 }
 
 // No storage is lent to this call: its part lies in the packet.
 fn cast_line(tag: u8, a: GroupAnswer, versions: &[u32], numbers: &[u32], packet: &[u8]) {
-    let outcome = a.outcome;
-    let lies = a.lies;
-    let delivered = part(lies, packet, run(packet, 0, 0));
+    let delivered = part(a.lies, packet, run(packet, 0, 0));
     let counted = [
         delivered.len() as u64,
         sum(delivered),
         sum_of_numbers(versions),
         sum_of_numbers(numbers),
     ];
-    multicast_line(tag, outcome, counted);
+    multicast_line(tag, a.outcome, counted);
 }
 
 // ---- damage
@@ -102,29 +99,23 @@ fn damage(versions: &mut [u32; ENTRIES], numbers: &mut [u32; ENTRIES], contents:
 // ---- the tables shown
 
 fn table_lines(versions: &[u32; ENTRIES], numbers: &[u32; ENTRIES]) {
-    line(b'E', &[shown(versions, numbers)]);
+    line(b'E', &[shown(versions, numbers) as u64]);
     entry_lines(versions, numbers);
 }
 
 // "how many of the 1,040 places have a version or a number that is not 0"
-fn shown(versions: &[u32; ENTRIES], numbers: &[u32; ENTRIES]) -> u64 {
-    let mut count: u64 = 0;
-    let mut i: usize = 0;
-    while i < ENTRIES {
-        if is_shown(versions[i], numbers[i]) {
-            count += 1;
-        }
-        i += 1;
-    }
-    count
+fn shown(versions: &[u32; ENTRIES], numbers: &[u32; ENTRIES]) -> usize {
+    versions
+        .iter()
+        .zip(numbers)
+        .filter(|(version, number)| is_shown(**version, **number))
+        .count()
 }
 
 // "an e line for each of them, in order of place"
 fn entry_lines(versions: &[u32; ENTRIES], numbers: &[u32; ENTRIES]) {
-    let mut i: usize = 0;
-    while i < ENTRIES {
-        entry_line(i, versions[i], numbers[i]);
-        i += 1;
+    for (place, (version, number)) in versions.iter().zip(numbers).enumerate() {
+        entry_line(place, *version, *number);
     }
 }
 

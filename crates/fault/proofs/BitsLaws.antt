@@ -2,14 +2,16 @@
 -- stands above the count. Assumes nothing.
 use Rattle.std.specs.Prelude.{ℕ, zero, suc, ◌+◌, ◌-◌, ◌*◌, ◌/◌, ◌%◌, ◌^◌, ◌≤◌, ◌<◌, ◌≡◌, Bool, true, false, cond, ◌&&◌, List, [], ◌∷◌, ◌++◌, eqb, ltb, length, take, drop, get_or}
 use Rattle.std.proofs.Math.Path.{refl}
-use Rattle.std.proofs.Common.{sym, ap, ap₂, ◌∙◌, ⊎_elim, div-one, pow-suc, add-one, arith, length-append, length-take, length-drop, take-append-drop, drop_of_length-le, pow_mono, shr-shr, drop-cons, take_all, take-take, take_at, drop_at, get_or-append-add, length-take-le, eqb-true, eq-eqb, ne_eqb, ltb-true, lt-ltb}
+use Rattle.std.proofs.Common.{sym, ap, ap₂, ◌∙◌, ⊎_elim, div-one, pow-suc, arith, length-append, length-take, length-drop, take-append-drop, drop_of_length-le, pow_mono, pow_pos, shr-shr, take_all, take-take, take_at, drop_at, get_or-append-add, length-take-le, eqb-true, eq-eqb, ne_eqb, ltb-true, lt-ltb}
 use Rattle.std.proofs.Math.Nat.{div-eq_of_lt}
 use Rattle.std.proofs.Math.ListN.{get_or-append}
+use Rattle.std.specs.List.{list_all}
 use Rattle.std.proofs.Math.Pow.{are_bytes}
 use Rattle.std.proofs.Math.Seq.{take-nil, drop-nil, take-append-add}
 use Rattle.std.proofs.lemmas.List.{take-append-le}
 use Rattle.octets.specs.Split.{lt_or_le, both, and_left, and_right}
 use Rattle.octets.specs.Number.{octet}
+use Rattle.octets.proofs.NumberLaws.{octets_bytes}
 use Rattle.map.specs.Map.{bit}
 use Rattle.map.proofs.MapLaws.{bit_zero}
 use Rattle.fault.specs.Section.{lowest_first, packed}
@@ -210,9 +212,19 @@ none_from (o ∷ l) modules small = ⊎_elim
     rw (z, r, own) (none_from l (modules - 8) (and_right (ltb o 256) (are_bytes l) small)))
     (lt_or_le modules 8)
 
-pub none_step : (l : List ℕ) (modules i : ℕ) → i < length l
-    → none_above modules (drop i l) ≡ eqb (octet l i / 2 ^ modules) 0 && none_above (modules - 8) (drop (i + 1) l)
-none_step l modules i h = ap (none_above modules) (drop-cons l i 0 h) ∙ rw (add-one i) (unfold none_above in refl)
+none_zero : (l : List ℕ) → none_above 0 l ≡ list_all (λ o. eqb o 0) l
+unfolding none_above
+none_zero [] = refl
+none_zero (o ∷ l) = rw (div-one o, none_zero l)
 
-pub none_end : (l : List ℕ) (modules i : ℕ) → length l ≤ i → none_above modules (drop i l) ≡ true
-none_end l modules i h = ap (none_above modules) (drop_of_length-le l {i = i} h) ∙ unfold none_above in refl
+first_of : (k : ℕ) (t : List ℕ) → k < 8 → none_above k t ≡ eqb (get_or t 0 0 / 2 ^ k) 0 && list_all (λ o. eqb o 0) (drop 1 t)
+unfolding none_above
+first_of k [] h = let z : 0 / 2 ^ k ≡ 0 = div-eq_of_lt (pow_pos k) in rw z
+first_of k (o ∷ t) h =
+    let none : k - 8 ≡ 0 = omega arith in
+    rw (none, none_zero t)
+
+-- By the octet that the count ends in, and those behind it, which have no module's bit.
+pub none_behind : (modules : ℕ) (l : List ℕ) → ((i : ℕ) → get_or l i 0 < 256)
+    → none_above modules l ≡ eqb (get_or (drop (modules / 8) l) 0 0 / 2 ^ (modules % 8)) 0 && list_all (λ o. eqb o 0) (drop 1 (drop (modules / 8) l))
+none_behind modules l small = none_from l modules (octets_bytes l (record { small = small })) ∙ first_of (modules % 8) (drop (modules / 8) l) (omega arith)

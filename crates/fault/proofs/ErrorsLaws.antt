@@ -1,14 +1,19 @@
 -- Laws of the list of errors: what was written is read, and what is read is written to the same octets. Assumes nothing.
-use Rattle.std.specs.Prelude.{ℕ, zero, suc, ◌+◌, ◌-◌, ◌*◌, ◌≤◌, ◌<◌, ◌≡◌, refl, Bool, true, false, ◌&&◌, List, [], ◌∷◌, ◌++◌, eqb, leb, length, take, drop, get_or}
-use Rattle.std.proofs.Common.{sym, ap, ◌∙◌, append_assoc, add-zero, arith, length-append, length-drop, drop_at, get_or-drop, take-add, drop-drop, eqb-true, leb-true, le-leb}
+use Rattle.std.specs.Prelude.{ℕ, zero, suc, ◌+◌, ◌-◌, ◌*◌, ◌/◌, ◌≤◌, ◌<◌, ◌≡◌, refl, Bool, true, not, ◌&&◌, List, [], ◌∷◌, ◌++◌, eqb, leb, length, take, drop, get_or}
+use Rattle.std.proofs.Common.{sym, ap, ◌∙◌, append_assoc, arith, length-append, length-drop, drop_at, get_or-drop, get_or-take, take-add, take-take, drop-drop, leb-true, le-leb, ⊎_elim, ne_eqb}
 use Rattle.std.proofs.Math.Pow.{are_bytes}
-use Rattle.std.proofs.lemmas.Bool.{eqb-false}
+use Rattle.std.proofs.lemmas.List.{drop-take}
+use Rattle.std.specs.List.{list_all}
+use Rattle.std.specs.Simd.{first_chunks}
 use Rattle.octets.specs.Number.{octet, number, octets, Octets}
 use Rattle.octets.proofs.NumberLaws.{length_octets, number_one, number_zero, number_drop, number_front, number_bound, octets_run, octets_small, bytes_append}
-use Rattle.octets.specs.Split.{both, and_left, and_right, same_test}
+use Rattle.octets.specs.Run.{run}
+use Rattle.octets.proofs.RunLaws.{length_run}
+use Rattle.octets.specs.Split.{both, and_left, and_right, same_test, lt_or_le}
 use Rattle.fault.specs.declared.Error.{Error}
 use Rattle.fault.specs.Section.{numbers_of, pairs_of, is_error, are_errors}
 use Rattle.fault.specs.Places.{errors_from}
+use Rattle.fault.specs.private.Chunks.{octets_are_errors}
 
 pub length_pairs : (l : List ℕ) → length (pairs_of l) ≡ 2 * length l
 unfolding pairs_of
@@ -134,32 +139,33 @@ errors_are n s o =
     ap (λ (b : Bool). b && are_errors (errors_from n (drop 4 s)))
     (error_asks (record { «module» = number 2 s 0; error = number 2 s 2 }) (number_bound 2 s 0 o) (number_bound 2 s 2 o))
 
-errors_step : (n at : ℕ) (s : List ℕ) → Octets s → 0 < n
-    → are_errors (errors_from n (drop at s)) ≡ leb 1 (number 2 s at) && are_errors (errors_from (n - 1) (drop (at + 4) s))
-errors_step n at s o some =
-    let k : n ≡ suc (n - 1) = omega arith in
-    ap (λ (i : ℕ). are_errors (errors_from i (drop at s))) k ∙ errors_are (n - 1) (drop at s) (octets_drop at s o)
-    ∙ rw (number_drop 2 at s 0, add-zero at, drop-drop 4 at s)
-
 -- By the two octets of the module's number.
 module_zero : (s : List ℕ) (at : ℕ) → eqb (octet s at) 0 && eqb (octet s (at + 1)) 0 ≡ eqb (number 2 s at) 0
 module_zero s at = rw (← number_one s at, ← number_one s (at + 1)) (number_zero 1 1 s at)
 
-pub errors_none : (n at : ℕ) (s : List ℕ) → Octets s → 0 < n → eqb (octet s at) 0 && eqb (octet s (at + 1)) 0 ≡ true
-    → are_errors (errors_from n (drop at s)) ≡ false
-errors_none n at s o some e =
-    errors_step n at s o some ∙ rw (eqb-true (number 2 s at) 0 (sym (module_zero s at) ∙ e))
+pub from_one : (x : ℕ) → leb 1 x ≡ not (eqb x 0)
+from_one x = ⊎_elim
+    (λ (none : x < 1). let z : x ≡ 0 = omega arith in rw z)
+    (λ (some : 1 ≤ x). rw (le-leb 1 x some, ne_eqb x 0 (λ z. omega arith)))
+    (lt_or_le x 1)
 
-pub errors_some : (n at : ℕ) (s : List ℕ) → Octets s → 0 < n → eqb (octet s at) 0 && eqb (octet s (at + 1)) 0 ≡ false
-    → are_errors (errors_from n (drop at s)) ≡ are_errors (errors_from (n - 1) (drop (at + 4) s))
-errors_some n at s o some e =
-    let ne = eqb-false (number 2 s at) 0 (sym (module_zero s at) ∙ e) in
-    errors_step n at s o some ∙ rw (le-leb 1 (number 2 s at) (positive (number 2 s at) ne))
-  where
-    positive : (k : ℕ) → (k ≡ 0 → ⊥) → 1 ≤ k
-    positive k ne = omega arith
+-- The errors are looked at four octets at a time.
+errors_four : (n : ℕ) (s : List ℕ) → Octets s
+    → list_all (λ e. not (eqb (get_or e 0 0) 0 && eqb (get_or e 1 0) 0)) (first_chunks 4 n s) ≡ are_errors (errors_from n s)
+unfolding errors_from are_errors
+errors_four zero s o = refl
+errors_four (suc n) s o =
+    rw (errors_four n (drop 4 s) (octets_drop 4 s o), get_or-take 4 s 0 0 (omega arith), get_or-take 4 s 1 0 (omega arith), module_zero s 0, ← from_one (number 2 s 0))
+    (sym (errors_are n s o))
 
-pub errors_end : (n : ℕ) (s : List ℕ) → n ≤ 0 → are_errors (errors_from n s) ≡ true
-errors_end n s none =
-    let z : n ≡ 0 = omega arith in
-    rw z (unfold errors_from are_errors in refl)
+chunks_front : (n : ℕ) (s : List ℕ) → first_chunks 4 n (take (4 * n) s) ≡ first_chunks 4 n s
+chunks_front zero s = refl
+chunks_front (suc n) s =
+    let more : 4 * suc n ≡ 4 + 4 * n = omega arith in
+    rw (more, take-take 4 (4 + 4 * n) s (omega arith), drop-take 4 (4 * n) s, chunks_front n (drop 4 s))
+
+pub errors_read : (n at : ℕ) (s : List ℕ) → Octets s → at + 4 * n ≤ length s → octets_are_errors (run at (4 * n) s) ≡ are_errors (errors_from n (drop at s))
+unfolding run
+errors_read n at s o room =
+    let count : length (run at (4 * n) s) / 4 ≡ n = omega (arith, length_run at (4 * n) s room) in
+    rw (count, chunks_front n (drop at s)) (errors_four n (drop at s) (octets_drop at s o))

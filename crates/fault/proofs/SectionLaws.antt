@@ -1,6 +1,6 @@
 -- Of some octets there is at most one section, and it is what stands at their places: both directions, and so a decision
 -- whether there is one. Assumes nothing.
-use Rattle.std.specs.Prelude.{ℕ, ◌+◌, ◌-◌, ◌*◌, ◌^◌, ◌≤◌, ◌<◌, ◌≡◌, ◌⊎◌, Bool, false, ◌&&◌, List, ◌++◌, eqb, leb}
+use Rattle.std.specs.Prelude.{ℕ, ◌+◌, ◌*◌, ◌^◌, ◌≤◌, ◌<◌, ◌≡◌, ◌⊎◌, Bool, false, ◌&&◌, List, ◌++◌, eqb, leb}
 use Rattle.std.proofs.Math.Path.{refl, ap}
 use Rattle.std.proofs.Common.{sym, ◌∙◌, inl, inr, add-zero, arith, length-take, length-drop, take-append-drop, drop-drop, take_at, get_or-drop, get_or-take, eqb-true, eq-eqb, leb-true, le-leb}
 use Rattle.std.proofs.Math.Bool.{true}

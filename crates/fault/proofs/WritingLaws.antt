@@ -1,25 +1,23 @@
 -- Laws of writing a section: what is laid down part by part are the octets of the section that is given. Assumes nothing.
-use Rattle.std.specs.Prelude.{ℕ, suc, ◌+◌, ◌-◌, ◌*◌, ◌/◌, ◌%◌, ◌≤◌, ◌<◌, ◌≡◌, refl, Bool, ◌&&◌, eqb, leb, length, take, drop, set, get_or}
+use Rattle.std.specs.Prelude.{ℕ, suc, ◌+◌, ◌*◌, ◌/◌, ◌%◌, ◌≤◌, ◌<◌, ◌≡◌, refl, Bool, ◌&&◌, eqb, leb, length, take, drop, set, get_or}
 use Rattle.std.proofs.Math.Path.{sym, ap}
-use Rattle.std.proofs.Common.{◌∙◌, zero-add, add-one, arith, length-append, length-drop, take-suc, drop-cons, length-take-le, eqb-true, leb-true, ltb-false}
-use Rattle.std.proofs.Math.Bool.{true, false}
+use Rattle.std.proofs.Common.{◌∙◌, zero-add, add-one, arith, length-append, take-suc, length-take-le, eqb-true, leb-true}
+use Rattle.std.proofs.Math.Bool.{true}
 use mathlib.Core.List.{List, [], ◌∷◌, ◌++◌, append_assoc, append-nil}
-use Rattle.std.proofs.Math.Dec.{ltb}
 use Rattle.std.proofs.Math.Pow.{are_bytes}
 use Rattle.std.proofs.lemmas.List.Edits.{sets-eq}
 use Rattle.octets.specs.Number.{octets}
-use Rattle.octets.proofs.NumberLaws.{length_octets}
+use Rattle.octets.proofs.NumberLaws.{length_octets, octets_bytes}
 use Rattle.octets.specs.Run.{laid}
-use Rattle.octets.proofs.RunLaws.{laid_on, laid_fits, laid_nothing}
-use Rattle.octets.specs.Split.{both, and_left, and_right}
-use Rattle.fault.specs.declared.writing.Writing.{Writing}
-use Rattle.fault.specs.declared.writing.Writing.TheVariants.{Written, Short, Broken}
+use Rattle.octets.proofs.RunLaws.{laid_on, laid_fits, laid_nothing, length_laid}
+use Rattle.octets.specs.Split.{and_left, and_right}
 use Rattle.fault.specs.Section.{Section, bits_size, packed, bits_of, numbers_of, pairs_of, octets_of, are_errors, most_section}
 use Rattle.fault.specs.Bits.{unpacked, none_above}
 use Rattle.fault.proofs.BitsLaws.{length_unpacked, packed_unpacked}
-use Rattle.fault.proofs.ErrorsLaws.{length_pairs, error_asks}
+use Rattle.fault.proofs.ErrorsLaws.{length_pairs, error_asks, from_one}
 use Rattle.fault.proofs.SectionLaws.{bits_enough}
-use Rattle.fault.specs.Writing.{errors_given, section_given, size_given, keeps_rules, writing_of, buffer_of}
+use Rattle.fault.specs.Writing.{errors_given, section_given, size_given, keeps_rules}
+use Rattle.fault.specs.private.Chunks.{numbers_are_errors}
 use Rattle.fault.specs.private.Laid.{front_of, back_of}
 
 -- ---- the errors that are given
@@ -29,21 +27,15 @@ given_two : (x y : ℕ) (l : List ℕ) → x < 65536 → y < 65536 → are_error
 unfolding errors_given are_errors
 given_two x y l a b = ap (λ (t : Bool). t && are_errors (errors_given l)) (error_asks (record { «module» = x; error = y }) a b)
 
-pub given_step : (l : List ℕ) (i : ℕ) → suc i < length l → get_or l i 0 < 65536 → get_or l (suc i) 0 < 65536
-    → are_errors (errors_given (drop i l)) ≡ leb 1 (get_or l i 0) && are_errors (errors_given (drop (i + 2) l))
-given_step l i h a b =
-    let k : suc (suc i) ≡ i + 2 = omega arith in
-    ap (λ (t : List ℕ). are_errors (errors_given t)) (drop-cons l i 0 (omega arith) ∙ ap (λ (t : List ℕ). get_or l i 0 ∷ t) (drop-cons l (suc i) 0 h))
-    ∙ given_two (get_or l i 0) (get_or l (suc i) 0) (drop (suc (suc i)) l) a b ∙ rw k
-
-few_given : (l : List ℕ) → length l ≤ 1 → are_errors (errors_given l) ≡ true
+-- The errors are looked at two numbers at a time.
+pub errors_two : (l : List ℕ) → ((i : ℕ) → get_or l i 0 < 65536)
+    → are_errors (errors_given l) ≡ numbers_are_errors l
 unfolding errors_given are_errors
-few_given [] h = refl
-few_given (x ∷ []) h = refl
-few_given (x ∷ y ∷ l) h = absurd (omega arith)
-
-pub given_end : (l : List ℕ) (i : ℕ) → length l ≤ i + 1 → are_errors (errors_given (drop i l)) ≡ true
-given_end l i h = few_given (drop i l) (rw (length-drop i l) (omega arith))
+errors_two [] small = refl
+errors_two (x ∷ []) small = refl
+errors_two (x ∷ y ∷ l) small =
+    let two : length (x ∷ y ∷ l) / 2 ≡ suc (length l / 2) = omega arith in
+    given_two x y l (small 0) (small 1) ∙ rw (two, from_one x, errors_two l (λ i. small (suc (suc i))))
 
 -- ---- numbers laid down one after the other
 
@@ -67,13 +59,13 @@ octets_two x small =
     rw high
 
 -- A number's two octets, stored one after the other.
-pub two_octets : (s : List ℕ) (at x : ℕ) → x < 65536 → at + 2 ≤ length s → set (set s at (x / 256)) (at + 1) (x % 256) ≡ laid s at (octets 2 x)
+two_octets : (s : List ℕ) (at x : ℕ) → x < 65536 → at + 2 ≤ length s → set (set s at (x / 256)) (at + 1) (x % 256) ≡ laid s at (octets 2 x)
 two_octets s at x small room =
     rw (octets_two x small, add-one at)
     (sets-eq (x / 256 ∷ x % 256 ∷ []) s at room ∙ append_assoc (take at s) (x / 256 ∷ x % 256 ∷ []) (drop (at + 2) s)
     ∙ sym (laid_fits s at (x / 256 ∷ x % 256 ∷ []) room))
 
-pub pairs_next : (s : List ℕ) (at : ℕ) (l : List ℕ) (i : ℕ) → i < length l → at + 2 * length l ≤ length s
+pairs_next : (s : List ℕ) (at : ℕ) (l : List ℕ) (i : ℕ) → i < length l → at + 2 * length l ≤ length s
     → laid (laid s at (pairs_of (take i l))) (at + 2 * i) (octets 2 (get_or l i 0)) ≡ laid s at (pairs_of (take (i + 1) l))
 pairs_next s at l i h room =
     let next : pairs_of (take (i + 1) l) ≡ pairs_of (take i l) ++ octets 2 (get_or l i 0)
@@ -83,6 +75,13 @@ pairs_next s at l i h room =
     let two : length (octets 2 (get_or l i 0)) ≡ 2 = length_octets 2 (get_or l i 0) in
     ap (λ (k : ℕ). laid (laid s at (pairs_of (take i l))) (at + k) (octets 2 (get_or l i 0))) (sym long)
     ∙ laid_on s at (pairs_of (take i l)) (octets 2 (get_or l i 0)) (omega (arith, long, two)) ∙ ap (laid s at) (sym next)
+
+-- One number more.
+pub pairs_stored : (s t : List ℕ) (at : ℕ) (l : List ℕ) (i : ℕ) → t ≡ laid s at (pairs_of (take i l)) → i < length l → at + 2 * length l ≤ length s → get_or l i 0 < 65536
+    → set (set t (at + 2 * i) (get_or l i 0 / 256)) (at + 2 * i + 1) (get_or l i 0 % 256) ≡ laid s at (pairs_of (take (i + 1) l))
+pairs_stored s t at l i e h room small =
+    let same : length t ≡ length s = ap length e ∙ length_laid s at (pairs_of (take i l)) in
+    two_octets t (at + 2 * i) (get_or l i 0) small (omega (arith, same)) ∙ rw e (pairs_next s at l i h room)
 
 -- ---- what is given is a section's
 
@@ -192,7 +191,7 @@ front_laid s modules bits errors name eight room =
 
 -- All of it, and the section that is given.
 pub given_laid : (modules : ℕ) (bits numbers name options s : List ℕ) → keeps_rules (size_given modules numbers options) modules bits numbers ≡ true
-    → are_bytes bits ≡ true → length name ≡ 8 → size_given modules numbers options ≤ length s
+    → ((i : ℕ) → get_or bits i 0 < 256) → length name ≡ 8 → size_given modules numbers options ≤ length s
     → laid (laid s 0 (front_of modules bits (length numbers / 2) name)) (16 + length bits) (back_of numbers options)
     ≡ laid s 0 (octets_of (section_given modules bits numbers name options))
 given_laid modules bits numbers name options s keeps small eight room =
@@ -206,54 +205,4 @@ given_laid modules bits numbers name options s keeps small eight room =
     = rw (length-append (pairs_of numbers) (octets 4 (length options) ++ options), length-append (octets 4 (length options)) options, length_pairs numbers, length_octets 4 (length options)) (omega arith) in
     let size = k.bits_long in
     halves_laid s front back (16 + length bits) (sym wide) (omega (arith, wide, long, size, room))
-    ∙ ap (laid s 0) (sym (given_octets (size_given modules numbers options) modules bits numbers name options k small))
-
--- ---- the answer, by what the code has in its locals
-
-module _ (modules : ℕ) (bits numbers name options buffer : List ℕ) (l : ℕ) (el : l ≡ bits_size modules) where
-  abbrev size : ℕ
-  size = 20 + l + 2 * length numbers + length options
-
-  -- What was answered and left.
-  abbrev Met : Writing → List ℕ → Type 0
-  Met r left = (r ≡ writing_of modules bits numbers options (length buffer)) × (left ≡ buffer_of modules bits numbers name options buffer)
-
-  pub short_is : (b : Bool) → b ≡ ltb (length buffer) size → b ≡ true → Met Short buffer
-  unfolding writing_of buffer_of
-  short_is b e is =
-      let short : ltb (length buffer) (size_given modules numbers options) ≡ true = rw (← el) (sym e ∙ is) in
-      (rw short, rw short)
-
-  -- The buffer is long enough.
-  module _ (b : Bool) (e : b ≡ ltb (length buffer) size) (none : b ≡ false) where
-    long : ltb (length buffer) (size_given modules numbers options) ≡ false
-    long = rw (← el) (sym e ∙ none)
-
-    pub size_fits : size ≤ length buffer
-    size_fits = ltb-false (length buffer) size (sym e ∙ none)
-
-    module _ (k : Bool) (keeps : k ≡ keeps_rules size modules bits numbers) where
-      keeps_same : k ≡ keeps_rules (size_given modules numbers options) modules bits numbers
-      keeps_same = rw (← el) keeps
-
-      pub broken_is : k ≡ false → Met Broken buffer
-      unfolding writing_of buffer_of
-      broken_is f =
-          let breaks : keeps_rules (size_given modules numbers options) modules bits numbers ≡ false = sym keeps_same ∙ f in
-          (rw (long, breaks), rw (long, breaks))
-
-      -- Nothing is left to refuse.
-      module _ (t : k ≡ true) where
-        pub keeps_given : keeps_rules (size_given modules numbers options) modules bits numbers ≡ true
-        keeps_given = sym keeps_same ∙ t
-
-        pub room_given : size_given modules numbers options ≤ length buffer
-        room_given = rw (← el) size_fits
-
-        pub size_few : size ≤ most_section
-        size_few = rw el (keeps_facts (size_given modules numbers options) modules bits numbers keeps_given).most
-
-        pub written_is : (left : List ℕ) → left ≡ laid buffer 0 (octets_of (section_given modules bits numbers name options)) → Met (Written size) left
-        unfolding writing_of buffer_of
-        written_is left there =
-            (rw (long, keeps_given, el), rw (long, keeps_given, there))
+    ∙ ap (laid s 0) (sym (given_octets (size_given modules numbers options) modules bits numbers name options k (octets_bytes bits (record { small = small }))))

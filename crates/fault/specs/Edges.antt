@@ -2,6 +2,7 @@
 use Rattle.std.specs.Prelude.{ℕ, ◌≡◌, refl, Bool, true, false, not, cond, ◌&&◌, List, [], ◌∷◌, ◌++◌, eqb, length, replicate}
 use Rattle.octets.specs.Number.{number, octets}
 use Rattle.octets.specs.Run.{run}
+use Rattle.refusal.specs.Numbers.{number_in}
 use Rattle.map.specs.Map.{bit}
 use Rattle.fault.specs.Section.{Section, bits_size, lowest_first, packed, numbers_of, pairs_of, octets_of, are_errors, is_within}
 use Rattle.fault.specs.Bits.{none_above}
@@ -39,7 +40,7 @@ same a b = cond a b (not b)
 pub met : Edge → Bool
 met (l modules k) = eqb (bits_size modules) k
 met (fits modules errors options b k) = same (is_within (plain modules errors options)) b && eqb (length (octets_of (plain modules errors options))) k
-met (reads s k) = eqb (reading_of s).number k
+met (reads s k) = eqb (number_in (reading_of s)) k
 met (dead s x b) = same (dead_at s x) b
 met (error s k m n) = eqb (error_at s k).«module» m && eqb (error_at s k).error n
 met (writes modules bits numbers options room k size) =

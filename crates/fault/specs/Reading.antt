@@ -1,10 +1,12 @@
 -- What is read from a fault section: whether it is one, "counts and name by value", a module's bit by its number, an error
 -- by its index, "the options as a returned part". All but the first is said of any octets, by the counts in them, and
 -- judges nothing; of a section's octets it is what the section says (ReadingLaws).
-use Rattle.std.specs.Prelude.{ℕ, ◌+◌, ◌-◌, ◌*◌, ◌/◌, ◌%◌, Bool, cond, ◌&&◌, List, eqb, leb, ltb, length, replicate}
+use Rattle.std.specs.Prelude.{ℕ, ◌+◌, ◌-◌, ◌*◌, ◌/◌, ◌%◌, Bool, cond, ◌&&◌, List, Result, Ok, Err, eqb, leb, ltb, length}
 use Rattle.std.proofs.Math.Pow.{are_bytes}
 use Rattle.octets.specs.Number.{octet, number}
 use Rattle.octets.specs.Run.{run}
+use Rattle.refusal.specs.declared.Refusal.{Refusal}
+use Rattle.refusal.specs.declared.Refusal.TheVariants.{Fault}
 use Rattle.map.specs.Map.{bit}
 use Rattle.fault.specs.declared.Error.{Error}
 use Rattle.fault.specs.declared.reading.Report.{Report}
@@ -17,20 +19,20 @@ use Rattle.fault.specs.Places.{modules_in, errors_in, list_at, count_at, options
 unfoldable pub is_section : List ℕ → Bool
 is_section s = are_bytes s && judged s
 
--- "counts and name by value"; 0 says that it was read.
+-- "counts and name by value"
 unfoldable pub report_of : List ℕ → Report
-report_of s = record { number = 0; modules = modules_in s; errors = errors_in s; options = options_in s; name = run (8 + bits_size (modules_in s)) 8 s }
+report_of s = record { modules = modules_in s; errors = errors_in s; options = options_in s; name = run (8 + bits_size (modules_in s)) 8 s }
 
 -- What a section says so.
 abbrev pub report : Section → Report
-report x = record { number = 0; modules = length x.dead; errors = length x.errors; options = length x.options; name = x.name }
+report x = record { modules = length x.dead; errors = length x.errors; options = length x.options; name = x.name }
 
 -- "24 for a fault section that breaks these rules", and nothing more.
-abbrev pub refused : Report
-refused = record { number = 24; modules = 0; errors = 0; options = 0; name = replicate 8 0 }
+abbrev pub refused : Result Report Refusal
+refused = Err Fault
 
-unfoldable pub reading_of : List ℕ → Report
-reading_of s = cond (is_section s) (report_of s) refused
+unfoldable pub reading_of : List ℕ → Result Report Refusal
+reading_of s = cond (is_section s) (Ok (report_of s)) refused
 
 -- "Module X has bit (X − 1) mod 8, lowest first, of octet (X − 1) / 8, set when dead"; "A module 0 or above the count is
 -- alive".

@@ -1,10 +1,12 @@
 -- A fault section written: from the module count, the bits in octets, the errors as 16-bit numbers two by two, the name and
 -- the options.
-use Rattle.std.specs.Prelude.{ℕ, ◌+◌, ◌*◌, ◌%◌, Bool, cond, ◌&&◌, List, [], ◌∷◌, eqb, leb, ltb, length}
+use Rattle.std.specs.Prelude.{ℕ, ◌+◌, ◌*◌, ◌%◌, Bool, cond, ◌&&◌, List, [], ◌∷◌, Result, Ok, Err, eqb, leb, ltb, length}
+use Rattle.std.specs.Result.{result_unwrap_or}
 use Rattle.octets.specs.Run.{laid}
+use Rattle.refusal.specs.declared.Refusal.{Refusal}
+use Rattle.refusal.specs.declared.Refusal.TheVariants.{Writing, Fault}
+use Rattle.refusal.specs.Numbers.{number_in}
 use Rattle.fault.specs.declared.Error.{Error}
-use Rattle.fault.specs.declared.writing.Writing.{Writing}
-use Rattle.fault.specs.declared.writing.Writing.TheVariants.{Written, Short, Broken}
 use Rattle.fault.specs.Section.{Section, bits_size, octets_of, are_errors, most_section}
 use Rattle.fault.specs.Bits.{dead_in, none_above}
 
@@ -32,10 +34,10 @@ keeps_rules size modules bits numbers =
 
 -- "23 (buffer shorter than the section, in whole numbers, even above 1,344) comes before 24." The answer, with the
 -- section's length, for a buffer of so many octets.
-unfoldable pub writing_of : ℕ → (bits numbers options : List ℕ) → ℕ → Writing
+unfoldable pub writing_of : ℕ → (bits numbers options : List ℕ) → ℕ → Result ℕ Refusal
 writing_of modules bits numbers options room =
     let size = size_given modules numbers options in
-    cond (ltb room size) Short (cond (keeps_rules size modules bits numbers) (Written size) Broken)
+    cond (ltb room size) (Err Writing) (cond (keeps_rules size modules bits numbers) (Ok size) (Err Fault))
 
 -- "Octets behind the section stay", and a refusal writes nothing.
 unfoldable pub buffer_of : ℕ → (bits numbers name options buffer : List ℕ) → List ℕ
@@ -49,7 +51,5 @@ pub record WritingTold : Type 0 where
   pub number : ℕ
   pub length : ℕ
 
-abbrev pub writing_told : Writing → WritingTold
-writing_told (Written k) = record { number = 0; length = k }
-writing_told Short = record { number = 23; length = 0 }
-writing_told Broken = record { number = 24; length = 0 }
+abbrev pub writing_told : Result ℕ Refusal → WritingTold
+writing_told a = record { number = number_in a; length = result_unwrap_or a 0 }

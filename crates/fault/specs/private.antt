@@ -1,2 +1,3 @@
+pub mod Chunks
 pub mod Judged
 pub mod Laid

@@ -1,5 +1,6 @@
 // The modules' bits: eight to an octet, lowest first, in whole words of 32.
-ghost use Rattle.std.specs.Prelude.{◌≡◌};
+ghost use Rattle.std.specs.Prelude.{◌≡◌, eqb};
+ghost use Rattle.std.specs.List.{list_all};
 ghost use Rattle.fault.specs.Section.{bits_size};
 ghost use Rattle.fault.specs.Bits.{none_above};
 
@@ -13,18 +14,18 @@ pub fn bits_size(modules: u32) -> usize
 }
 
 // Whether no bit above the count is set. Octets that are full of modules have no such bit, and are not looked at.
+#[tactic(auto, using(crate::proofs::BitsLaws::none_behind))]
 pub fn none_above(modules: u32, bits: &[u8]) -> bool
     ensures { result ≡ none_above modules bits.now }
 {
-    let rest = from(bits, (modules / 8) as usize);
-    let mut left = modules % 8;
-    let mut i = 0;
-    while i < rest.len() {
-        if rest[i] >> left != 0 {
-            return false;
-        }
-        left = 0;
-        i += 1;
+    match from(bits, (modules / 8) as usize).split_first() {
+        None => true,
+        Some((first, behind)) => first >> (modules % 8) == 0 && are_zero(behind),
     }
-    true
+}
+
+fn are_zero(octets: &[u8]) -> bool
+    ensures { result ≡ list_all (λ o. eqb o 0) octets.now }
+{
+    octets.iter().all(|o| *o == 0)
 }

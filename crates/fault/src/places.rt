@@ -17,6 +17,7 @@ pub struct Places {
     pub rest: usize,
 }
 
+#[tactic(auto, unfolding(crate::specs::Places::places_of))]
 pub fn places_of(s: &[u8]) -> Places
     ensures { result ≡ places_of s.now }
 {

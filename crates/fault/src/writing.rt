@@ -1,48 +1,19 @@
 // A section written into a lent buffer. Nothing is stored before 23 and 24 are decided.
 ghost use Rattle.std.specs.Prelude.{◌≡◌, true, ◌+◌, ◌*◌, ◌≤◌, ltb, length};
 ghost use Rattle.octets.specs.Run.{laid};
-ghost use Rattle.fault.specs.Section.{most_section, pairs_of, octets_of, are_errors};
-ghost use Rattle.fault.specs.Writing.{errors_given, section_given, size_given, keeps_rules, writing_of, buffer_of, writing_told};
+ghost use Rattle.fault.specs.Section.{most_section, pairs_of, octets_of};
+ghost use Rattle.fault.specs.Writing.{section_given, size_given, keeps_rules, writing_of, buffer_of};
+ghost use Rattle.fault.specs.private.Chunks.{numbers_are_errors};
 ghost use Rattle.fault.specs.private.Laid.{front_of, back_of};
 
 use crate::bits::{bits_size, none_above};
 use crate::{MOST, NAME};
 use octets::{lay, write4};
-
-#[derive(Clone, Copy)]
-pub enum Writing {
-    // the section's length
-    Written(u16),
-    Short,
-    Broken,
-}
-
-impl Writing {
-    // 0, 23 or 24.
-    pub fn number(self) -> u8
-        ensures { result ≡ (writing_told self).number }
-    {
-        match self {
-            Writing::Written(_) => 0,
-            Writing::Short => 23,
-            Writing::Broken => 24,
-        }
-    }
-
-    // The section's length, 0 on a refusal.
-    pub fn length(self) -> u16
-        ensures { result ≡ (writing_told self).length }
-    {
-        match self {
-            Writing::Written(length) => length,
-            Writing::Short => 0,
-            Writing::Broken => 0,
-        }
-    }
-}
+use refusal::Refusal;
 
 // Writes a section at the front of a buffer: so many modules with their bits, the errors as numbers two by two (module,
-// error), their name, the options.
+// error), their name, the options. Only this call takes all five, so they stay parameters.
+#[tactic(auto, using(crate::proofs::WritingLaws::given_laid, crate::proofs::WritingLaws::keeps_facts), unfolding(crate::specs::Writing::writing_of, crate::specs::Writing::buffer_of))]
 pub fn write_section(
     modules: u32,
     bits: &[u8],
@@ -50,20 +21,36 @@ pub fn write_section(
     name: [u8; NAME],
     options: &[u8],
     buffer: &mut [u8],
-) -> Writing
+) -> Result<u16, Refusal>
     ensures answer { result ≡ writing_of modules bits.now errors.now options.now (length buffer.old) }
     ensures written { buffer.new ≡ buffer_of modules bits.now errors.now name options.now buffer.old }
 {
+    let size = size_allowed(buffer.len(), modules, bits, errors, options)?;
+    write_front(buffer, modules, bits, (errors.len() / 2) as u32, name);
+    write_back(buffer, 16 + bits.len(), errors, options);
+    Ok(size)
+}
+
+// The section's length, where it has room and keeps the rules.
+#[tactic(auto, using(crate::proofs::WritingLaws::keeps_facts), unfolding(crate::specs::Writing::writing_of))]
+fn size_allowed(
+    room: usize,
+    modules: u32,
+    bits: &[u8],
+    errors: &[u16],
+    options: &[u8],
+) -> Result<u16, Refusal>
+    ensures { result ≡ writing_of modules bits.now errors.now options.now room }
+{
     let size = bits_size(modules);
-    if is_short(buffer.len(), size, errors.len(), options.len()) {
-        return Writing::Short;
+    if is_short(room, size, errors.len(), options.len()) {
+        return Err(Refusal::Writing);
     }
     let size = 20 + size + 2 * errors.len() + options.len();
     if !keeps_rules(size, modules, bits, errors) {
-        return Writing::Broken;
+        return Err(Refusal::Fault);
     }
-    write_parts(modules, bits, errors, name, options, buffer);
-    Writing::Written(size as u16)
+    Ok(size as u16)
 }
 
 // Whether a section of 20 octets, so many of bits, two for each number and the options has no room. It is what is left that
@@ -86,6 +73,7 @@ fn is_short(room: usize, bits: usize, numbers: usize, options: usize) -> bool
 }
 
 // Whether what is given is a section's parts, of so many octets in all.
+#[tactic(auto, using(crate::proofs::WritingLaws::errors_two), unfolding(crate::specs::Writing::keeps_rules))]
 fn keeps_rules(size: usize, modules: u32, bits: &[u8], errors: &[u16]) -> bool
     ensures { result ≡ keeps_rules size modules bits.now errors.now }
 {
@@ -100,36 +88,14 @@ fn keeps_rules(size: usize, modules: u32, bits: &[u8], errors: &[u16]) -> bool
 
 // Whether no error names the module 0.
 fn are_errors(numbers: &[u16]) -> bool
-    ensures { result ≡ are_errors (errors_given numbers.now) }
+    ensures { result ≡ numbers_are_errors numbers.now }
 {
-    let mut i: usize = 0;
-    while i + 1 < numbers.len() {
-        if numbers[i] == 0 {
-            return false;
-        }
-        i += 2;
-    }
-    true
-}
-
-// All parts, one behind the other.
-fn write_parts(
-    modules: u32,
-    bits: &[u8],
-    errors: &[u16],
-    name: [u8; NAME],
-    options: &[u8],
-    buffer: &mut [u8],
-)
-    requires { (keeps_rules (size_given modules errors.now options.now) modules bits.now errors.now ≡ true) × (size_given modules errors.now options.now ≤ length buffer.old) }
-    ensures { buffer.new ≡ laid buffer.old 0 (octets_of (section_given modules bits.now errors.now name options.now)) }
-{
-    let list = 16 + bits.len();
-    write_front(buffer, modules, bits, (errors.len() / 2) as u32, name);
-    write_back(buffer, list, errors, options);
+    let (errors, _) = numbers.as_chunks::<2>();
+    errors.iter().all(|e| e[0] != 0)
 }
 
 // What stands before the errors: their count and name too.
+#[tactic(auto, using(crate::proofs::WritingLaws::front_laid))]
 fn write_front(buffer: &mut [u8], modules: u32, bits: &[u8], errors: u32, name: [u8; NAME])
     requires { 16 + length bits.now ≤ length buffer.old }
     ensures { buffer.new ≡ laid buffer.old 0 (front_of modules bits.now errors name) }
@@ -142,6 +108,7 @@ fn write_front(buffer: &mut [u8], modules: u32, bits: &[u8], errors: u32, name: 
 }
 
 // The errors, and what stands behind them.
+#[tactic(auto, using(crate::proofs::WritingLaws::back_laid))]
 fn write_back(buffer: &mut [u8], at: usize, errors: &[u16], options: &[u8])
     requires { (at + 2 * length errors.now + 4 + length options.now ≤ length buffer.old) × (length options.now ≤ most_section) }
     ensures { buffer.new ≡ laid buffer.old at (back_of errors.now options.now) }
@@ -153,16 +120,14 @@ fn write_back(buffer: &mut [u8], at: usize, errors: &[u16], options: &[u8])
 }
 
 // Octet by octet, which the compiler makes many at a time; a call for each number would be asked for its room each time.
+#[tactic(auto, using(crate::proofs::WritingLaws::pairs_none, crate::proofs::WritingLaws::pairs_stored))]
 fn write_numbers(s: &mut [u8], at: usize, numbers: &[u16])
     requires { at + 2 * length numbers.now ≤ length s.old }
     ensures { s.new ≡ laid s.old at (pairs_of numbers.now) }
 {
-    let mut i = 0;
-    while i < numbers.len() {
-        let x = numbers[i];
+    for (i, x) in numbers.iter().enumerate() {
         let place = at + 2 * i;
-        s[place] = (x / 256) as u8;
-        s[place + 1] = (x % 256) as u8;
-        i += 1;
+        s[place] = (*x / 256) as u8;
+        s[place + 1] = (*x % 256) as u8;
     }
 }

@@ -1,21 +1,46 @@
 -- Laws of the groups: what 9 and 10 say of each, and what is kept. Assumes nothing.
-use Rattle.std.specs.Prelude.{ℕ, zero, suc, ◌+◌, ◌≤◌, ◌<◌, ◌≡◌, refl, ◌≢◌, Bool, true, false, ◌&&◌, List, eqb, length, get_or}
-use Rattle.std.proofs.Common.{sym, ap, ◌∙◌, add-one, arith, length-set, get_or-set_same, get_or-set_other}
+use Rattle.std.specs.Prelude.{ℕ, zero, suc, ◌≤◌, ◌<◌, ◌≡◌, refl, ◌≢◌, Bool, true, false, ◌&&◌, List, eqb, length, get_or, MatchBool}
+use Rattle.std.proofs.Common.{sym, ap, ◌∙◌, zero-add, arith, length-set, get_or-set_same, get_or-set_other}
 use Rattle.std.proofs.Math.Logic.{⊎_elim}
 use Rattle.std.proofs.Math.Dec.{leb}
 use Rattle.std.proofs.Math.ListN.{get_or-eq_default}
 use borrow.Author.Tests.{leb-true, lt-ltb, le-ltb, eqb-true, eq-eqb}
+use Rattle.std.specs.List.{range_with_len, AllWithin, HoldsAt}
+use Rattle.std.proofs.lemmas.List.FromFn.{length-range_with_len, get_or-range_with_len}
 use Rattle.octets.proofs.FirstPlaceLaws.{place_same, place_holds, place_here}
-use Rattle.octets.specs.Split.{lt_or_le, eq_or_ne, true_or_false, and_left, and_right}
+use Rattle.octets.specs.Split.{lt_or_le, eq_or_ne, true_or_false, both, not_both, never_both, and_left, and_right}
 use Rattle.groups.specs.declared.Group.{Group}
 use Rattle.groups.specs.declared.Groups.{Groups}
 use Rattle.groups.specs.Groups.{groups_most, no_group, no_groups, is_group, number_at, place_among, place_of, each_group, groups_within, kept_at, kept_list, kept}
 
--- One group more.
-pub each_more : (f : ℕ → ℕ) (i : ℕ) (so_far within new : Bool) → so_far ≡ each_group f i → within ≡ is_group (f i) → new ≡ eqb (place_among f i (f i)) i
-    → so_far && (within && new) ≡ each_group f (i + 1)
+-- Whether the group at a place passes: it is within its limits, and none before it has its number.
+abbrev pub passes : (ℕ → ℕ) → ℕ → Bool
+passes f i = is_group (f i) && eqb (place_among f i (f i)) i
+
+each_pass : (f : ℕ → ℕ) (k : ℕ) → ((i : ℕ) → i < k → passes f i ≡ true) → each_group f k ≡ true
 unfolding each_group
-each_more f i so_far within new e g h = rw (add-one i, e, g, h)
+each_pass f zero h = refl
+each_pass f (suc k) h = both (each_group f k) (passes f k) (each_pass f k (λ i less. h i (omega arith))) (h k (omega arith))
+
+one_fails : (f : ℕ → ℕ) (k i : ℕ) → i < k → passes f i ≡ false → each_group f k ≡ false
+unfolding each_group
+one_fails f zero i less e = absurd (omega arith)
+one_fails f (suc k) i less e = ⊎_elim
+    (λ (q : i < k). rw (one_fails f k i q e))
+    (λ (q : k ≤ i).
+    let z : i ≡ k = omega arith in
+    not_both (each_group f k) (passes f k) (λ x y. never_both y (rw z at e)))
+    (lt_or_le i k)
+
+-- What the library's `all` over a range says of the groups there.
+pub each_of : (f : ℕ → ℕ) (k : ℕ) (r : Bool)
+    → MatchBool r (AllWithin (λ i. passes f i ≡ true) (range_with_len 0 k) 0 (length (range_with_len 0 k))) ((j : ℕ) × (j < length (range_with_len 0 k)) × HoldsAt (λ i. passes f i ≡ false) (range_with_len 0 k) j)
+    → r ≡ each_group f k
+each_of f k true h =
+    sym (each_pass f k (λ i less. rw (get_or-range_with_len 0 k i 0 less ∙ zero-add i) at (h i 0 (omega arith) (omega (arith, length-range_with_len 0 k)))))
+each_of f k false (j, less, fails) =
+    let here : j < k = omega (arith, length-range_with_len 0 k) in
+    sym (one_fails f k j here (rw (get_or-range_with_len 0 k j 0 here ∙ zero-add j) at (fails 0)))
 
 -- ---- what is kept
 
@@ -25,7 +50,7 @@ kept_length g zero = refl
 kept_length g (suc k) = length-set (kept_list g k) k (kept_at g k) ∙ kept_length g k
 
 -- Each of the eight places is as it is kept,
-kept_place_at : (g : Groups) (k j : ℕ) → j < k → j < groups_most → get_or (kept_list g k) j no_group ≡ kept_at g j
+pub kept_place_at : (g : Groups) (k j : ℕ) → j < k → j < groups_most → get_or (kept_list g k) j no_group ≡ kept_at g j
 unfolding kept_list
 kept_place_at g zero j less few = absurd (omega arith)
 kept_place_at g (suc k) j less few = ⊎_elim

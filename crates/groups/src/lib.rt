@@ -3,16 +3,18 @@
 // Every public function is total: it takes any count and any numbers. Places past the count are never looked at.
 #![tactic(auto)]
 
-ghost use Rattle.std.specs.Prelude.{◌≡◌, get_or};
+ghost use Rattle.std.specs.Prelude.{◌≡◌, ◌&&◌, eqb, get_or};
 ghost use Rattle.groups.specs.Groups.{no_group, is_group, number_at, place_among, groups_within, place_of, kept_at, kept as kept_of};
+
+use std::array::from_fn;
 
 // 1 to 255
 #[repr(C)]
-#[derive(Clone, Copy)]
+#[derive(Clone, Copy, PartialEq, Eq)]
 pub struct Group(pub u8);
 
 #[repr(C)]
-#[derive(Clone, Copy)]
+#[derive(Clone, Copy, PartialEq, Eq)]
 pub struct Groups {
     pub count: u8,
     pub list: [Group; Groups::PLACES],
@@ -22,7 +24,7 @@ impl Group {
     pub fn within(self) -> bool
         ensures { result ≡ is_group self.0 }
     {
-        (1 <= self.0) & (self.0 <= 255)
+        (1..=255).contains(&self.0)
     }
 }
 
@@ -39,46 +41,32 @@ impl Groups {
     pub fn at(self, i: u8) -> Group
         ensures { result ≡ get_or self.list i no_group }
     {
-        if Groups::PLACES <= i as usize {
-            return Group(0);
-        }
-        self.list[i as usize]
+        octets::at(&self.list, i as usize, Group(0))
     }
 
     // Whether there are no more than there may be, each within its limits, and none twice.
     pub fn within(self) -> bool
         ensures { result ≡ groups_within self }
     {
-        let count = self.count;
-        if Groups::PLACES < count as usize {
-            return false;
-        }
-        let mut within = true;
-        let mut i: u8 = 0;
-        while i < count {
-            let group = self.at(i);
-            within = within & (group.within() & (self.place_among(i, group) == i));
-            i += 1;
-        }
-        within
+        self.count as usize <= Groups::PLACES && (0..self.count).all(|i| self.within_at(i))
+    }
+
+    // Whether the group at a place is within its limits, and stands at none before.
+    fn within_at(self, i: u8) -> bool
+        ensures { result ≡ is_group (number_at self i) && eqb (place_among (number_at self) i (number_at self i)) i }
+    {
+        let group = self.at(i);
+        group.within() & (self.place_among(i, group) == i)
     }
 
     // At which of the first k places a group stands; k where it stands at none.
     fn place_among(self, k: u8, group: Group) -> u8
         ensures { result ≡ place_among (number_at self) k group.0 }
     {
-        let mut i: u8 = 0;
-        while i < k {
-            let other = self.at(i);
-            if other.0 == group.0 {
-                return i;
-            }
-            i += 1;
-        }
-        k
+        (0..k).find(|i| self.at(*i) == group).unwrap_or(k)
     }
 
-    // At which place a group stands; the count where it is not registered.
+    // At which place a group stands; the count where it is not registered, which is what 25 asks.
     pub fn place(self, group: Group) -> u8
         ensures { result ≡ place_of self group.0 }
     {
@@ -86,24 +74,24 @@ impl Groups {
     }
 
     // The group at a place as it is kept: places past the count are 0.
-    fn kept_at(self, i: u8) -> Group
+    #[tactic(auto, unfolding(crate::specs::Groups::kept_at))]
+    fn kept_at(self, i: usize) -> Group
         ensures { result ≡ kept_at self i }
     {
-        if i < self.count { self.at(i) } else { Group(0) }
+        if i < self.count as usize {
+            octets::at(&self.list, i, Group(0))
+        } else {
+            Group(0)
+        }
     }
 
     // The groups as they are kept.
     pub fn kept(self) -> Groups
         ensures { result ≡ kept_of self }
     {
-        let mut kept = Groups::NONE;
-        kept.count = self.count;
-        let mut i: u8 = 0;
-        while (i as usize) < Groups::PLACES {
-            let group = self.kept_at(i);
-            kept.list[i as usize] = group;
-            i += 1;
+        Groups {
+            count: self.count,
+            list: from_fn(|i| self.kept_at(i)),
         }
-        kept
     }
 }

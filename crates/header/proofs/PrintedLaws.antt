@@ -1,6 +1,6 @@
 -- Table 7's rows are what is written, and what is read wherever what it fixes is found; the printed headers are such.
 -- Assumes nothing.
-use Rattle.std.specs.Prelude.{◌≡◌, refl, ℕ, ◌+◌, ◌-◌, ◌^◌, ◌<◌, List, ◌++◌, length, drop}
+use Rattle.std.specs.Prelude.{◌≡◌, refl, ℕ, ◌^◌, ◌<◌, List, ◌++◌, length, drop}
 use Rattle.std.proofs.Common.{sym, ap, ◌∙◌, arith}
 use Rattle.octets.specs.Number.{number, octets}
 use Rattle.header.specs.declared.Head.{Head}
@@ -8,7 +8,6 @@ use Rattle.header.specs.Layout.{layout, tabulate, octet_of}
 use Rattle.header.specs.Head.{header, head_of, value, headed, is_fixed}
 use Rattle.header.specs.Printed.{table7, sample_head, sample_octets, figure_head, figure_octets, Sized, HeaderAsPrinted}
 use Rattle.std.proofs.lemmas.Bool.{lt-leb}
-use Rattle.octets.specs.Run.{laid}
 use Rattle.header.proofs.HeadLaws.{Fits, length_header, read_back, written_fixed, fixed_read, headed_fits}
 use Rattle.header.specs.Places.{Field, place, header_size}
 use Rattle.header.specs.Places.Field.{h_type, ml, domain, data_field, node, da, v_seq, seq, m_ctl, inq_id, tcd, ver, gtid, mode, pver, pri, cbn, tbn, bsize, fui}

@@ -1,6 +1,6 @@
 -- Headers as the papers print them: they pin the places of Places.antt by octets that no place made. Each field's
 -- octets stand on a line of their own, which ends in its name, so that tools/move-places can exchange them.
-use Rattle.std.specs.Prelude.{List, [], ◌∷◌, ◌++◌, ℕ, ◌+◌, ◌^◌, ◌≤◌, ◌<◌, ◌≡◌, true, length, take, drop}
+use Rattle.std.specs.Prelude.{List, [], ◌∷◌, ◌++◌, ℕ, ◌^◌, ◌≤◌, ◌<◌, ◌≡◌, true, length, take, drop}
 use Rattle.octets.specs.Number.{octets, Octets}
 use Rattle.header.specs.declared.Head.{Head}
 use Rattle.header.specs.Head.{header, head_of, headed, is_fixed}

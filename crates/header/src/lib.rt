@@ -23,7 +23,7 @@ const NUXM: u32 = 0x4e55_584d;
 
 // What the caller gives for every piece of a message: all of Table 7 but the fixed fields and what the cut makes.
 #[repr(C)]
-#[derive(Clone, Copy)]
+#[derive(Clone, Copy, PartialEq, Eq)]
 pub struct Given {
     pub field: DataField,
     pub node: Node,
@@ -37,7 +37,7 @@ pub struct Given {
 }
 
 // What the cut makes: message length + 64, PDU length, piece number from 1, number of pieces.
-#[derive(Clone, Copy)]
+#[derive(Clone, Copy, PartialEq, Eq)]
 pub struct Cut {
     pub ml: u32,
     pub bsize: u16,
@@ -45,7 +45,7 @@ pub struct Cut {
     pub tbn: u8,
 }
 
-#[derive(Clone, Copy)]
+#[derive(Clone, Copy, PartialEq, Eq)]
 pub struct Head {
     pub given: Given,
     pub cut: Cut,
@@ -53,12 +53,14 @@ pub struct Head {
 
 // ---- reading
 
+#[tactic(auto, unfolding(crate::specs::Head::head_of))]
 pub fn read_head(packet: &[u8]) -> Head
     ensures { result ≡ head_of packet.now }
 {
-    let given = read_given(packet);
-    let cut = read_cut(packet);
-    Head { given, cut }
+    Head {
+        given: read_given(packet),
+        cut: read_cut(packet),
+    }
 }
 
 fn read_given(packet: &[u8]) -> Given
@@ -96,6 +98,7 @@ pub fn read_bsize(packet: &[u8]) -> u16
 }
 
 // Whether every field that Table 7 fixes holds what it fixes.
+#[tactic(auto, unfolding(crate::specs::Head::is_fixed))]
 pub fn is_fixed(packet: &[u8]) -> bool
     ensures { result ≡ is_fixed packet.now }
 {
@@ -121,23 +124,21 @@ fn no_inquiry(packet: &[u8]) -> bool
 pub fn length_outside(least: usize, most: usize, k: usize, h: Head) -> bool
     ensures { result ≡ length_outside least most k h }
 {
-    let cut = h.cut;
-    (k < least) | (most < k) | (k != cut.bsize as usize)
+    (k < least) | (most < k) | (k != h.cut.bsize as usize)
 }
 
 // The fixed fields, PRI and MODE.
 pub fn common_within(packet: &[u8], h: Head) -> bool
     ensures { result ≡ common_within packet.now h }
 {
-    let given = h.given;
-    is_fixed(packet) & is_pri(given.pri) & is_mode(given.mode)
+    is_fixed(packet) & is_pri(h.given.pri) & is_mode(h.given.mode)
 }
 
 // ---- writing
 
-// Writes a header at the front of a buffer that has room for one. The buffer may be slow memory: each field, a fixed one
-// too, is stored once, in Table 7's order, so that no octet is stored twice or read, and all rise. No contract says that;
-// bench/stores shows it.
+// Writes a header at the front of a buffer that has room for one. The buffer may be slow memory: each field, a fixed
+// one too, is stored once, in Table 7's order, so that no octet is stored twice or read, and all rise. No contract says
+// that; bench/stores shows it.
 pub fn write_head(buffer: &mut [u8], h: Head)
     ensures { buffer.new ≡ headed buffer.old h }
 {
@@ -148,6 +149,7 @@ pub fn write_head(buffer: &mut [u8], h: Head)
     }
 }
 
+#[tactic(auto, unfolding(crate::specs::private::Filled::fill))]
 fn write_front(buffer: &mut [u8], h: Head)
     ensures { buffer.new ≡ fill (front_slots h) buffer.old }
 {
@@ -171,6 +173,7 @@ fn write_middle(buffer: &mut [u8], h: Head)
     lay(buffer, places::GTID, &[0u8; 8]);
 }
 
+#[tactic(auto, unfolding(crate::specs::private::Filled::fill))]
 fn write_back(buffer: &mut [u8], h: Head)
     ensures { buffer.new ≡ fill (back_slots h) buffer.old }
 {

@@ -21,9 +21,10 @@ pub fn holds(map: u64, c: u8) -> bool
 fn shift_of(c: u8) -> u8
     ensures { result ≡ c - 1 }
 {
-    if c == 0 { 0 } else { c - 1 }
+    c.saturating_sub(1)
 }
 
+#[tactic(auto, using(crate::proofs::MapLaws::code_bit))]
 fn bit_of(map: u64, k: u8) -> bool
     requires { k < most_pieces }
     ensures { result ≡ eqb (bit k map) 1 }
@@ -44,6 +45,7 @@ pub fn marked(map: u64, c: u8) -> u64
     set_bit(map, shift_of(c))
 }
 
+#[tactic(auto, using(crate::proofs::MapLaws::code_mark))]
 fn set_bit(map: u64, k: u8) -> u64
     requires { (k < most_pieces) × (bit k map ≡ 0) }
     ensures { result ≡ map + 2 ^ k }
@@ -71,6 +73,7 @@ pub fn is_partial(map: u64, t: u8) -> bool
     (0 < map) & (map < full(t))
 }
 
+#[tactic(auto, using(crate::proofs::MapLaws::code_full))]
 fn full(t: u8) -> u64
     requires { t ≤ most_pieces }
     ensures { result ≡ full_map t }
@@ -78,19 +81,19 @@ fn full(t: u8) -> u64
     if t == 0 {
         return 0;
     }
-    0xffff_ffff_ffff_ffff >> (MOST_PIECES - t)
+    u64::MAX >> (MOST_PIECES - t)
 }
 
 // How many pieces are held.
 pub fn held(map: u64) -> u32
     ensures { result ≡ ones map }
 {
-    u64::count_ones(map)
+    map.count_ones()
 }
 
 // The lowest missing piece: one more than the trailing ones.
 pub fn lowest_missing(map: u64) -> u32
     ensures { result ≡ lowest_missing map }
 {
-    u64::trailing_zeros(!map) + 1
+    map.trailing_ones() + 1
 }

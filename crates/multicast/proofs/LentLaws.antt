@@ -1,7 +1,9 @@
 -- Laws of the lent tables and of the numbers, by what the code has found: no place in the tables is past what a machine word
--- counts, a table of another size is outside 26's limits, and the first number that applies where those before it do not.
+-- counts, a table of another size is outside 26's limits, and the first refusal that applies where those before it do not.
 -- Assumes nothing.
-use Rattle.std.specs.Prelude.{ℕ, ◌*◌, ◌≤◌, ◌<◌, ◌≡◌, refl, ◌≢◌, Bool, not, cond, ◌&&◌, List, [], ◌∷◌, eqb, length, set}
+use Rattle.std.specs.Prelude.{ℕ, ◌*◌, ◌≤◌, ◌<◌, ◌≡◌, refl, ◌≢◌, Bool, not, ◌&&◌, List, [], ◌∷◌, eqb, length, set, Ok, Err}
+use Rattle.refusal.specs.declared.Refusal.{Refusal}
+use Rattle.refusal.specs.declared.Refusal.TheVariants as refusals
 use Rattle.std.proofs.Math.Path.{sym, ap}
 use Rattle.std.proofs.Common.{◌∙◌, mul-le-mul_right, arith}
 use Rattle.std.proofs.Math.Logic.{⊎_elim}
@@ -22,8 +24,8 @@ use Rattle.answers.specs.declared.Outcome.TheVariants.{Refused, Delivered}
 use Rattle.answers.specs.declared.Where.{Where}
 use Rattle.answers.specs.Told.{refusal}
 use Rattle.answers.proofs.ToldLaws.{refusal_plain}
-use Rattle.rules.specs.calls.First.{row, first}
-use Rattle.rules.proofs.calls.FirstLaws.{first_here, first_later, first_append, numbered, without, first_without}
+use Rattle.rules.specs.calls.First.{row, checked, by_check}
+use Rattle.rules.proofs.calls.FirstLaws.{given_checked, checked_here, checked_later, checked_append, without, first_without}
 use Rattle.rules.specs.calls.Multicast.{Tables, tables_within, one_piece, verdict_in, early_cast_rows, late_cast_rows, cast_rows, place_for, cast_outcome, is_kept, kept_by, cast_tables, handed_by, group_answer, listening, multicast_answer, multicast_tables}
 use Rattle.rules.proofs.calls.MulticastLaws.{listening_nine}
 
@@ -42,48 +44,48 @@ module _ (n : ℕ) (t : Tables) where
   unfolding tables_within
   numbers_wrong ne = simp (ne_eqb (length t.numbers) n ne, and-false)
 
--- ---- the number, by what was found before
+-- ---- what is refused, by what was found before
 
-module _ (s : Listener) (t : Tables) (g : ℕ) (packet : List ℕ) (h : Head) (early : ℕ) (is : early ≡ first (early_cast_rows s t g packet h)) where
-  number_is : first (cast_rows s t g packet h) ≡ cond (eqb early 0) (first (late_cast_rows s t g h)) early
+module _ (s : Listener) (t : Tables) (g : ℕ) (packet : List ℕ) (h : Head) where
+  check_is : checked (cast_rows s t g packet h) ≡ by_check (checked (early_cast_rows s t g packet h)) (checked (late_cast_rows s t g h)) Err
   unfolding cast_rows
-  number_is = rw is (first_append (early_cast_rows s t g packet h) (late_cast_rows s t g h) (unfold numbered in refl))
+  check_is = checked_append (early_cast_rows s t g packet h) (late_cast_rows s t g h)
 
   -- One of 9, 26, 12 to 14 and 25.
-  pub early_refused : early ≢ 0 → Refused early 0 ≡ cast_outcome s t g packet h
+  pub early_refused : (r : Refusal) → checked (early_cast_rows s t g packet h) ≡ Err r → Refused r 0 ≡ cast_outcome s t g packet h
   unfolding cast_outcome
-  early_refused ne =
-      let told : first (cast_rows s t g packet h) ≡ early = number_is ∙ rw (ne_eqb early 0 ne) in
+  early_refused r e =
+      let told : checked (cast_rows s t g packet h) ≡ Err r = check_is ∙ rw e in
       let plain = first_without 17 (early_cast_rows s t g packet h) (λ z. omega (arith, z)) (unfold without in refl) in
-      rw (told, ne_eqb early 0 ne) (sym (refusal_plain early (verdict_in s t g h) (λ z. plain (sym is ∙ z))))
+      rw told (sym (refusal_plain r (verdict_in s t g h) (λ z. plain (given_checked (early_cast_rows s t g packet h) r e ∙ z))))
 
-  module _ (none : early ≡ 0) where
-    late : (k : ℕ) → first (late_cast_rows s t g h) ≡ k → k ≢ 0 → refusal k (verdict_in s t g h) ≡ cast_outcome s t g packet h
+  module _ (none : checked (early_cast_rows s t g packet h) ≡ Ok tt) where
+    late : (r : Refusal) → checked (late_cast_rows s t g h) ≡ Err r → refusal r (verdict_in s t g h) ≡ cast_outcome s t g packet h
     unfolding cast_outcome
-    late k e ne = rw (number_is, none, e, ne_eqb k 0 ne)
+    late r e = rw (check_is, none, e)
 
     abbrev ModeWrong : Bool
     ModeWrong = eqb h.given.mode 1 && not s.test
 
-    pub late_mode : ModeWrong ≡ true → Refused 15 0 ≡ cast_outcome s t g packet h
-    late_mode e = late 15 (first_here 15 ModeWrong _ e) (λ z. omega (arith, z))
+    pub late_mode : ModeWrong ≡ true → Refused refusals.Test 0 ≡ cast_outcome s t g packet h
+    late_mode e = late refusals.Test (checked_here refusals.Test ModeWrong _ e)
 
     module _ (mode : ModeWrong ≡ false) where
-      pub late_cut : one_piece h.cut ≡ false → Refused 16 0 ≡ cast_outcome s t g packet h
-      late_cut e = late 16 (first_later 15 ModeWrong _ mode ∙ first_here 16 (not (one_piece h.cut)) _ (ap not e)) (λ z. omega (arith, z))
+      pub late_cut : one_piece h.cut ≡ false → Refused refusals.Cut 0 ≡ cast_outcome s t g packet h
+      late_cut e = late refusals.Cut (checked_later refusals.Test ModeWrong _ mode ∙ checked_here refusals.Cut (not (one_piece h.cut)) _ (ap not e))
 
       module _ (cut : one_piece h.cut ≡ true) where
-        passed : first (late_cast_rows s t g h) ≡ first (row 17 (is_repeat (verdict_in s t g h)) ∷ [])
-        passed = first_later 15 ModeWrong _ mode ∙ first_later 16 (not (one_piece h.cut)) _ (ap not cut)
+        passed : checked (late_cast_rows s t g h) ≡ checked (row refusals.Repeat (is_repeat (verdict_in s t g h)) ∷ [])
+        passed = checked_later refusals.Test ModeWrong _ mode ∙ checked_later refusals.Cut (not (one_piece h.cut)) _ (ap not cut)
 
-        pub late_repeat : is_repeat (verdict_in s t g h) ≡ true → Refused 17 (verdict_age (verdict_in s t g h)) ≡ cast_outcome s t g packet h
-        late_repeat e = late 17 (passed ∙ first_here 17 (is_repeat (verdict_in s t g h)) _ e) (λ z. omega (arith, z))
+        pub late_repeat : is_repeat (verdict_in s t g h) ≡ true → Refused refusals.Repeat (verdict_age (verdict_in s t g h)) ≡ cast_outcome s t g packet h
+        late_repeat e = late refusals.Repeat (passed ∙ checked_here refusals.Repeat (is_repeat (verdict_in s t g h)) _ e)
 
         pub late_none : is_repeat (verdict_in s t g h) ≡ false → Delivered (verdict_in s t g h) ≡ cast_outcome s t g packet h
-        unfolding cast_outcome first
+        unfolding cast_outcome checked
         late_none e =
-            let zero_is : first (late_cast_rows s t g h) ≡ 0 = passed ∙ rw e in
-            rw (number_is, none, zero_is)
+            let none_late : checked (late_cast_rows s t g h) ≡ Ok tt = passed ∙ rw e in
+            rw (check_is, none, none_late)
 
 -- ---- what is left of the tables
 
@@ -151,7 +153,7 @@ module _ (w : Receiver) (t : Tables) (g : ℕ) (packet : List ℕ) (h : Head) (l
 
 -- Of a state outside its limits nothing is looked at, and nothing changes.
 pub left_outside : (s : Listener) (t : Tables) (g : ℕ) (packet : List ℕ) (h : Head) → s.valid ≡ false → (o : Outcome) (versions numbers : List ℕ)
-    → Left s t g packet h o versions numbers → (o ≡ Refused 9 0) × (versions ≡ t.versions) × (numbers ≡ t.numbers)
+    → Left s t g packet h o versions numbers → (o ≡ Refused refusals.State 0) × (versions ≡ t.versions) × (numbers ≡ t.numbers)
 unfolding cast_outcome kept_by
 left_outside s t g packet h outside o versions numbers left =
     let nine = listening_nine s t g packet h outside in

@@ -5,17 +5,20 @@
 // in the tables are said in `rules`, as is what becomes of a packet.
 #![tactic(auto)]
 
-ghost use Rattle.std.specs.Prelude.{◌≡◌, [], ◌∷◌, leb, get_or, set as set_at};
+ghost use Rattle.std.specs.Prelude.{◌≡◌, [], ◌∷◌, leb};
 ghost use Rattle.answers.specs.declared.Outcome.TheVariants.{Refused};
 ghost use Rattle.groups.specs.Groups.{place_of};
-ghost use Rattle.rules.specs.calls.First.{row, first};
-ghost use Rattle.rules.specs.calls.Multicast.{entries_of, entry_place, tables_within, one_piece, place_for, verdict_in, early_cast_rows, cast_outcome, is_kept, cast_tables, handed_by, multicast_answer, multicast_tables};
+ghost use Rattle.refusal.specs.declared.Refusal.TheVariants as refusals;
+ghost use Rattle.rules.specs.calls.First.{row, checked};
+ghost use Rattle.rules.specs.calls.Multicast.{entries_of, entry_place, entry_at, tables_within, one_piece, place_for, verdict_in, early_cast_rows, cast_outcome, is_kept, cast_tables, handed_by, multicast_answer, multicast_tables};
 ghost use Rattle.multicast.specs.Lent.{tables};
 
 use answers::{GroupAnswer, Listener, Outcome, Where};
 use groups::{Group, Groups};
 use header::{Cut, Head, SIZE, length_outside, read_head};
+use octets::{at, put};
 use receiver::message::head_within;
+use refusal::Refusal;
 use ring::{Number, Verdict, Version, number_check};
 use state::{Address, Last, Receiver};
 
@@ -38,14 +41,13 @@ pub fn multicast(
 {
     let h = read_head(packet);
     let look = state.look(Address::of(h));
-    let groups = state.groups;
     let s = Listener {
         valid: look.valid,
         test: state.test,
         n1: state.n1,
         count: state.count,
         at: look.at,
-        groups,
+        groups: state.groups,
     };
     let outcome = take(s, versions, numbers, group, packet, h);
     GroupAnswer {
@@ -67,12 +69,12 @@ pub fn take(
     ensures versions { versions.new ≡ (cast_tables s (tables versions.old numbers.old) group.0 packet.now h).versions }
     ensures numbers { numbers.new ≡ (cast_tables s (tables versions.old numbers.old) group.0 packet.now h).numbers }
 {
-    let outcome = outcome_of(s, versions, numbers, group, packet, h);
+    let cast = Cast { s, group, h };
+    let outcome = cast.outcome(Tables { versions, numbers }, packet);
     if is_kept(outcome) {
-        let given = h.given;
-        let place = place_for(s, group, h);
-        put(versions, place, given.version.0);
-        put(numbers, place, given.number.0);
+        let place = cast.place();
+        put(versions, place, h.given.version.0);
+        put(numbers, place, h.given.number.0);
     }
     outcome
 }
@@ -82,92 +84,56 @@ pub fn handed(o: Outcome) -> Where
     ensures { result ≡ handed_by o }
 {
     match o {
-        Outcome::Refused { number: _, age: _ } => Where::Nothing,
-        Outcome::Stored => Where::Nothing,
         Outcome::Delivered(_) => Where::Packet,
+        _ => Where::Nothing,
     }
 }
 
-// ---- the numbers
-
-// The first number that applies, or the verdict with which the message is delivered.
-fn outcome_of(
-    s: Listener,
-    versions: &[u32],
-    numbers: &[u32],
-    group: Group,
-    packet: &[u8],
-    h: Head,
-) -> Outcome
-    ensures { result ≡ cast_outcome s (tables versions.now numbers.now) group.0 packet.now h }
+// Whether it is a delivery, and not unchecked.
+fn is_kept(o: Outcome) -> bool
+    ensures { result ≡ is_kept o }
 {
-    let early = early_number(s, versions, numbers, group, packet, h);
-    if early != 0 {
-        return refused(early);
+    match o {
+        Outcome::Delivered(verdict) => !verdict.is_unchecked(),
+        _ => false,
     }
-    let given = h.given;
-    let cut = h.cut;
-    if (given.mode == 1) & !s.test {
-        return refused(15);
-    }
-    if !one_piece(cut) {
-        return refused(16);
-    }
-    let verdict = verdict_in(s, versions, numbers, group, h);
-    if verdict.is_repeat() {
-        return Outcome::Refused {
-            number: 17,
-            age: verdict.age(),
-        };
-    }
-    Outcome::Delivered(verdict)
 }
 
-// A refusal but 17, which has an age.
-fn refused(number: u8) -> Outcome
-    ensures { result ≡ Refused number 0 }
-{
-    Outcome::Refused { number, age: 0 }
+// ---- the two lent tables, as they are read
+
+#[derive(Clone, Copy)]
+struct Tables<'a> {
+    versions: &'a [u32],
+    numbers: &'a [u32],
 }
 
-// The first of 9, 26, 12 to 14 and 25 that applies, or 0.
-fn early_number(
-    s: Listener,
-    versions: &[u32],
-    numbers: &[u32],
-    group: Group,
-    packet: &[u8],
-    h: Head,
-) -> u8
-    ensures { result ≡ first (early_cast_rows s (tables versions.now numbers.now) group.0 packet.now h) }
-{
-    let groups = s.groups;
-    if !s.valid {
-        return 9;
+impl<'a> Tables<'a> {
+    // Whether both have as many entries as they should, each within the limits of a last number. All are looked at, whatever
+    // the first says: so several are compared at once.
+    fn within(self, entries: usize) -> bool
+        ensures { result ≡ tables_within entries (tables self.entry.versions.now self.entry.numbers.now) }
+    {
+        if self.versions.len() != entries {
+            return false;
+        }
+        if self.numbers.len() != entries {
+            return false;
+        }
+        let mut within = true;
+        for place in 0..entries {
+            within &= self.last(place).within();
+        }
+        within
     }
-    if !tables_within(versions, numbers, entries(s.count, groups.count)) {
-        return 26;
-    }
-    if length_outside(SIZE, MOST, packet.len(), h) {
-        return 12;
-    }
-    if !head_within(packet, h) {
-        return 13;
-    }
-    if s.count <= s.at {
-        return 14;
-    }
-    group_number(groups, group)
-}
 
-// 25 where the group is not registered, or 0.
-fn group_number(groups: Groups, group: Group) -> u8
-    ensures { result ≡ first (row 25 (leb groups.count (place_of groups group.0)) ∷ []) }
-{
-    if groups.count <= groups.place(group) {
-        25
-    } else {
-        0
+    // The entry at a place, zeros past the end.
+    fn last(self, place: usize) -> Last
+        ensures { result ≡ entry_at (tables self.entry.versions.now self.entry.numbers.now) place }
+    {
+        Last {
+            version: Version(at(self.versions, place, 0)),
+            number: Number(at(self.numbers, place, 0)),
+        }
     }
 }
 
@@ -177,28 +143,104 @@ fn entries(senders: u8, groups: u8) -> usize
     (senders as usize) * (groups as usize) * PRIORITIES
 }
 
-// Whether both tables have as many entries as they should, each within the limits of a last number. All are looked at,
-// whatever the first says: so several are compared at once.
-fn tables_within(versions: &[u32], numbers: &[u32], entries: usize) -> bool
-    ensures { result ≡ tables_within entries (tables versions.now numbers.now) }
+// ---- a packet to a group, and what is looked at of the state
+
+#[derive(Clone, Copy)]
+struct Cast {
+    s: Listener,
+    group: Group,
+    h: Head,
+}
+
+impl Cast {
+    // The first refusal that applies, or the verdict with which the message is delivered.
+    fn outcome(self, lent: Tables, packet: &[u8]) -> Outcome
+        ensures { result ≡ cast_outcome self.s (tables lent.entry.versions.now lent.entry.numbers.now) self.group.0 packet.now self.h }
+    {
+        if let Err(refusal) = self.check_early(lent, packet) {
+            return refused(refusal);
+        }
+        if (self.h.given.mode == 1) & !self.s.test {
+            return refused(Refusal::Test);
+        }
+        if !one_piece(self.h.cut) {
+            return refused(Refusal::Cut);
+        }
+        let verdict = self.verdict(lent);
+        if verdict.is_repeat() {
+            return Outcome::Refused {
+                refusal: Refusal::Repeat,
+                age: verdict.age(),
+            };
+        }
+        Outcome::Delivered(verdict)
+    }
+
+    // The first of 9, 26, 12 to 14 and 25 that applies.
+    fn check_early(self, lent: Tables, packet: &[u8]) -> Result<(), Refusal>
+        ensures { result ≡ checked (early_cast_rows self.s (tables lent.entry.versions.now lent.entry.numbers.now) self.group.0 packet.now self.h) }
+    {
+        if !self.s.valid {
+            return Err(Refusal::State);
+        }
+        if !lent.within(entries(self.s.count, self.s.groups.count)) {
+            return Err(Refusal::Tables);
+        }
+        if length_outside(SIZE, MOST, packet.len(), self.h) {
+            return Err(Refusal::Length);
+        }
+        if !head_within(packet, self.h) {
+            return Err(Refusal::Header);
+        }
+        if self.s.count <= self.s.at {
+            return Err(Refusal::Sender);
+        }
+        check_group(self.s.groups, self.group)
+    }
+
+    // What the number check says.
+    fn verdict(self, lent: Tables) -> Verdict
+        ensures { result ≡ verdict_in self.s (tables lent.entry.versions.now lent.entry.numbers.now) self.group.0 self.h }
+    {
+        let last = lent.last(self.place());
+        number_check(
+            self.s.n1,
+            last.version,
+            last.number,
+            self.h.given.version,
+            self.h.given.number,
+        )
+    }
+
+    // The place of the packet's sender, group and priority in the tables.
+    fn place(self) -> usize
+        ensures { result ≡ place_for self.s self.group.0 self.h }
+    {
+        let groups = self.s.groups;
+        entry_place(
+            groups.count,
+            self.s.at,
+            groups.place(self.group),
+            self.h.given.pri,
+        )
+    }
+}
+
+fn entry_place(groups: u8, sender: u8, group: u8, pri: u8) -> usize
+    ensures { result ≡ entry_place groups sender group pri }
 {
-    if versions.len() != entries {
-        return false;
+    ((sender as usize) * (groups as usize) + (group as usize)) * PRIORITIES + (pri as usize)
+}
+
+// Whether the group is registered.
+fn check_group(groups: Groups, group: Group) -> Result<(), Refusal>
+    ensures { result ≡ checked (row refusals.Group (leb groups.count (place_of groups group.0)) ∷ []) }
+{
+    if groups.count <= groups.place(group) {
+        Err(Refusal::Group)
+    } else {
+        Ok(())
     }
-    if numbers.len() != entries {
-        return false;
-    }
-    let mut within = true;
-    let mut i: usize = 0;
-    while i < entries {
-        let last = Last {
-            version: Version(versions[i]),
-            number: Number(numbers[i]),
-        };
-        within = within & last.within();
-        i += 1;
-    }
-    within
 }
 
 // CBN = TBN = 1, and p = n.
@@ -208,57 +250,9 @@ fn one_piece(cut: Cut) -> bool
     (cut.cbn == 1) & (cut.tbn == 1) & (cut.bsize as u32 == cut.ml)
 }
 
-// ---- the entry
-
-// The place of the packet's sender, group and priority.
-fn place_for(s: Listener, group: Group, h: Head) -> usize
-    ensures { result ≡ place_for s group.0 h }
+// A refusal but `Refusal::Repeat`, which has an age.
+fn refused(refusal: Refusal) -> Outcome
+    ensures { result ≡ Refused refusal 0 }
 {
-    let groups = s.groups;
-    let given = h.given;
-    entry_place(groups.count, s.at, groups.place(group), given.pri)
-}
-
-fn entry_place(groups: u8, sender: u8, group: u8, pri: u8) -> usize
-    ensures { result ≡ entry_place groups sender group pri }
-{
-    ((sender as usize) * (groups as usize) + (group as usize)) * PRIORITIES + (pri as usize)
-}
-
-// What the number check says.
-fn verdict_in(s: Listener, versions: &[u32], numbers: &[u32], group: Group, h: Head) -> Verdict
-    ensures { result ≡ verdict_in s (tables versions.now numbers.now) group.0 h }
-{
-    let place = place_for(s, group, h);
-    let given = h.given;
-    let version = Version(at(versions, place));
-    let number = Number(at(numbers, place));
-    number_check(s.n1, version, number, given.version, given.number)
-}
-
-// Whether it is a delivery, and not unchecked.
-fn is_kept(o: Outcome) -> bool
-    ensures { result ≡ is_kept o }
-{
-    match o {
-        Outcome::Refused { number: _, age: _ } => false,
-        Outcome::Stored => false,
-        Outcome::Delivered(verdict) => !verdict.is_unchecked(),
-    }
-}
-
-// The number at a place of a table, 0 past its end.
-fn at(table: &[u32], k: usize) -> u32
-    ensures { result ≡ get_or table.now k 0 }
-{
-    if k < table.len() { table[k] } else { 0 }
-}
-
-// Puts a number down at a place of a table, if there is one.
-fn put(table: &mut [u32], k: usize, x: u32)
-    ensures { table.new ≡ set_at table.old k x }
-{
-    if k < table.len() {
-        table[k] = x;
-    }
+    Outcome::Refused { refusal, age: 0 }
 }

@@ -1,6 +1,7 @@
 -- Laws of the first place at which something holds. Assumes nothing.
-use Rattle.std.specs.Prelude.{ℕ, zero, suc, ◌≤◌, ◌<◌, ◌≡◌, refl, ◌≢◌, Bool, true, false, cond, ltb}
-use Rattle.std.proofs.Common.{ap, ◌∙◌, ⊎_elim, arith, ltb-true, ltb-false, lt-ltb, le-ltb}
+use Rattle.std.specs.Prelude.{ℕ, zero, suc, ◌≤◌, ◌<◌, ◌≡◌, refl, ◌≢◌, Bool, true, false, cond, ltb, Option, None, Some, MatchOption}
+use Rattle.std.proofs.Common.{sym, ap, ◌∙◌, ⊎_elim, arith, ltb-true, ltb-false, lt-ltb, le-ltb}
+use Rattle.std.specs.Option.{unwrap_or}
 use Rattle.octets.specs.FirstPlace.{first_place}
 use Rattle.octets.specs.Split.{eq_or_ne, lt_or_le}
 
@@ -60,3 +61,16 @@ place_most g (suc k) = by (first_place g k) (ltb (first_place g k) k) refl (g k)
     by i true e c = omega (arith, ltb-true i k e)
     by i false e true = omega arith
     by i false e false = omega arith
+
+-- Where it holds at none of the first k places, there is none,
+pub place_past : (g : ℕ → Bool) (k : ℕ) → ((j : ℕ) → j < k → g j ≡ false) → first_place g k ≡ k
+unfolding first_place
+place_past g zero none = refl
+place_past g (suc k) none = place_none g k (place_past g k (λ j less. none j (omega arith))) (none k (omega arith))
+
+-- so that the library's `find` over a range finds it.
+pub place_found : (g : ℕ → Bool) (k : ℕ) (r : Option ℕ)
+    → MatchOption r ((j : ℕ) → 0 ≤ j → j < k → g j ≡ false) (λ i. (0 ≤ i) × (i < k) × (g i ≡ true) × ((j : ℕ) → 0 ≤ j → j < i → g j ≡ false))
+    → unwrap_or r k ≡ first_place g k
+place_found g k None none = sym (place_past g k (λ j less. none j (omega arith) less))
+place_found g k (Some i) (low, high, here, before) = sym (place_here g i (place_past g i (λ j less. before j (omega arith) less)) here k high)

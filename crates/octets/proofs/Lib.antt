@@ -1,3 +1,4 @@
 pub mod FirstPlaceLaws
+pub mod MadeLaws
 pub mod NumberLaws
 pub mod RunLaws

@@ -1,11 +1,12 @@
 -- Laws of numbers in octets, each once over the width. Assumes nothing.
-use Rattle.std.specs.Prelude.{◌≡◌, refl, ◌⊎◌, List, [], ◌∷◌, ◌++◌, ℕ, zero, suc, ◌+◌, ◌-◌, ◌*◌, ◌/◌, ◌%◌, ◌^◌, ◌≤◌, ◌<◌, true, ◌&&◌, eqb, ltb, length, take, drop, set}
-use Rattle.std.proofs.Common.{sym, ap, ap₂, ◌∙◌, inl, inr, ⊎_elim, append_assoc, add-zero, add-suc, zero-add, mul_assoc, pow-suc, add-mul, mod-eq_of_lt, mul-le-mul_right, arith, length-append, drop_of_length-le, ext_get_or, get_or-take, get_or-drop, drop_at, length-take-le, eqb-true, eq-eqb, ltb-true, lt-ltb}
-use Rattle.std.proofs.Math.Nat.{mod-one}
+use Rattle.std.specs.Prelude.{◌≡◌, refl, ◌⊎◌, List, [], ◌∷◌, ◌++◌, ℕ, zero, suc, ◌+◌, ◌-◌, ◌*◌, ◌/◌, ◌%◌, ◌^◌, ◌≤◌, ◌<◌, true, ◌&&◌, eqb, ltb, length, take, drop}
+use Rattle.std.proofs.Common.{sym, ap, ap₂, ◌∙◌, inl, inr, ⊎_elim, add-zero, add-suc, zero-add, mul_assoc, pow-suc, add-mul, mul_comm, mod-eq_of_lt, mul-le-mul_right, arith, length-append, ext_get_or, get_or-take, get_or-drop, length-take-le, eqb-true, eq-eqb, ltb-true, lt-ltb}
+use Rattle.std.proofs.Math.Nat.{mod-one, pow-succ', div-div-eq-div-mul}
 use Rattle.std.proofs.Math.Arith.{mod-mul, digits_lt}
 use Rattle.std.proofs.Math.ListN.{get_or-append}
 use Rattle.std.proofs.Math.Pow.{are_bytes}
-use Rattle.std.proofs.lemmas.List.{get_or_at, drop-append-le, set_split}
+use Rattle.std.proofs.lemmas.List.{get_or_at}
+use Rattle.std.specs.Int.{byte_at as lib_octet, byte_worth, bytes_high_first, sum_through}
 use Rattle.octets.specs.Number.{octet, number, octets, Octets}
 use Rattle.octets.specs.Run.{laid}
 use Rattle.octets.proofs.RunLaws.{laid_in, laid_out}
@@ -20,9 +21,20 @@ number_ext zero s t a b h = refl
 number_ext (suc w) s t a b h =
     ap₂ (λ (x y : ℕ). x * 256 + y) (number_ext w s t a b (λ k q. h k (omega arith))) (h w (omega arith))
 
+pub number_alike : (w : ℕ) (s t : List ℕ) → ((k : ℕ) → k < w → octet s k ≡ octet t k) → number w s 0 ≡ number w t 0
+number_alike w s t h = number_ext w s t 0 0 (λ k q. ap (octet s) (zero-add k) ∙ h k q ∙ sym (ap (octet t) (zero-add k)))
+
 -- Read from the part that starts at k, a place counts from k on.
 pub number_drop : (w k : ℕ) (s : List ℕ) (at : ℕ) → number w (drop k s) at ≡ number w s (k + at)
 number_drop w k s at = number_ext w (drop k s) s at (k + at) (λ j q. get_or-drop k s (at + j) 0 ∙ ap (octet s) (omega arith))
+
+-- Read from the part that starts at its place it stands at the front,
+pub number_rest : (w : ℕ) (s : List ℕ) (at : ℕ) (t : List ℕ) → t ≡ drop at s → number w t 0 ≡ number w s at
+number_rest w s at t e = rw e (number_drop w at s 0 ∙ ap (number w s) (add-zero at))
+
+-- and is made of the first octets alone.
+pub number_take : (w : ℕ) (s t : List ℕ) → t ≡ take w s → number w t 0 ≡ number w s 0
+number_take w s t e = number_alike w t s (λ k q. rw e (get_or-take w s k 0 q))
 
 -- Two numbers side by side are one.
 pub number_cat : (a b : ℕ) (s : List ℕ) (at : ℕ) → number (a + b) s at ≡ number a s at * 256 ^ b + number b s (at + a)
@@ -37,17 +49,37 @@ pub number_one : (s : List ℕ) (at : ℕ) → number 1 s at ≡ octet s at
 unfolding number
 number_one s at = zero-add (octet s (at + 0)) ∙ ap (octet s) (add-zero at)
 
--- The two halves of a number, read from the part t that starts at its place.
-pub number_halves : (w : ℕ) (s : List ℕ) (at : ℕ) (t : List ℕ) (high low : ℕ) → t ≡ drop at s → high ≡ number w t 0 → low ≡ number w t w
-    → high * 256 ^ w + low ≡ number (w + w) s at
-number_halves w s at t high low e h l =
-    let a : number w (drop at s) 0 ≡ number w s at = number_drop w at s 0 ∙ ap (number w s) (add-zero at) in
-    rw (h, l, e, a, number_drop w at s w) (sym (number_cat w w s at))
-
 pub number_bound : (w : ℕ) (s : List ℕ) (at : ℕ) → Octets s → number w s at < 256 ^ w
 unfolding number
 number_bound zero s at o = omega arith
 number_bound (suc w) s at o = rw (pow-suc 256 w) (digits_lt (number_bound w s at o) (o.small (at + w)))
+
+-- The number that the library makes of octets is ours: m is how many more of them follow.
+worth : (m b : ℕ) → byte_worth m b ≡ b * 256 ^ m
+worth zero b = omega arith
+worth (suc m) b = refl
+
+number_more : (w : ℕ) (s : List ℕ) → number (suc w) s 0 ≡ number w s 0 * 256 + octet s w
+unfolding number
+number_more w s = ap (λ (j : ℕ). number w s 0 * 256 + octet s j) (zero-add w)
+
+be_number_from : (m k : ℕ) (s : List ℕ) → sum_through (λ i. byte_worth (m + k - i) (octet s i)) k ≡ number (suc k) s 0 * 256 ^ m
+be_number_from m zero s =
+    let e : m + 0 - 0 ≡ m = omega arith in
+    rw (e, number_one s 0) (worth m (octet s 0))
+be_number_from m (suc k) s =
+    let here : m + suc k - suc k ≡ m = omega arith in
+    let more : m + suc k ≡ suc m + k = omega arith in
+    let front = number (suc k) s 0 in
+    let high : sum_through (λ i. byte_worth (m + suc k - i) (octet s i)) k ≡ front * 256 ^ suc m
+    = ap (λ (j : ℕ). sum_through (λ i. byte_worth (j - i) (octet s i)) k) more ∙ be_number_from (suc m) k s in
+    let low : byte_worth (m + suc k - suc k) (octet s (suc k)) ≡ octet s (suc k) * 256 ^ m
+    = ap (λ (j : ℕ). byte_worth j (octet s (suc k))) here ∙ worth m (octet s (suc k)) in
+    ap₂ (λ (x y : ℕ). x + y) high low
+    ∙ rw (number_more (suc k) s, pow-suc 256 m) (omega (arith, add-mul (front * 256) (octet s (suc k)) (256 ^ m), mul_assoc front (256 ^ m) 256, mul_assoc front 256 (256 ^ m), mul_comm 256 (256 ^ m)))
+
+pub be_number : (k : ℕ) (s : List ℕ) → sum_through (λ i. byte_worth (k - i) (octet s i)) k ≡ number (suc k) s 0
+be_number k s = ap (λ (j : ℕ). sum_through (λ i. byte_worth (j - i) (octet s i)) k) (sym (zero-add k)) ∙ be_number_from 0 k s ∙ omega arith
 
 -- ---- writing
 
@@ -60,26 +92,23 @@ unfolding octets
 length_octets zero x = refl
 length_octets (suc w) x = rw (length-append (octets w (x / 256)) (x % 256 ∷ []), length_octets w (x / 256)) (omega arith)
 
-octets_last : (k w x : ℕ) → drop k (octets (k + w) x) ≡ octets w x
-unfolding octets
-octets_last k zero x = rw (add-zero k) (drop_of_length-le (octets k x) {i = k} (omega (arith, length_octets k x)))
-octets_last k (suc w) x =
-    rw (add-suc k w)
-    (drop-append-le k (octets (k + w) (x / 256)) (x % 256 ∷ []) (omega (arith, length_octets (k + w) (x / 256)))
-    ∙ ap (λ (l : List ℕ). l ++ (x % 256 ∷ [])) (octets_last k w (x / 256)))
+-- The octets that the library makes of a number are ours.
+at_more : (k x : ℕ) → lib_octet (suc k) x ≡ lib_octet k (x / 256)
+at_more zero x = refl
+at_more (suc k) x = ap (λ (p : ℕ). x / p % 256) (pow-succ' 256 (suc k)) ∙ ap (λ (q : ℕ). q % 256) (sym (div-div-eq-div-mul x 256 (256 ^ suc k)))
 
--- The w low octets of a number are the last of n.
-pub octets_low : (n w x : ℕ) → w ≤ n → drop (n - w) (octets n x) ≡ octets w x
-octets_low n w x h =
-    let e : n ≡ n - w + w = omega arith in
-    ap (λ (m : ℕ). drop (n - w) (octets m x)) e ∙ octets_last (n - w) w x
+be_octets_more : (k x : ℕ) → bytes_high_first (suc k) x ≡ bytes_high_first k (x / 256) ++ (x % 256 ∷ [])
+be_octets_more zero x = refl
+be_octets_more (suc k) x = ap₂ (λ (b : ℕ) (l : List ℕ). b ∷ l) (at_more k x) (be_octets_more k x)
 
--- The low octet is taken off a number and laid down behind the i octets that are left: all of them together stay.
-pub octets_off : (i x : ℕ) (l all : List ℕ) → i < length l → octets (suc i) x ++ drop (suc i) l ≡ all → octets i (x / 256) ++ drop i (set l i (x % 256)) ≡ all
+pub be_octets : (w x : ℕ) → bytes_high_first w x ≡ octets w x
 unfolding octets
-octets_off i x l all h e =
-    rw (set_split l i (x % 256) h, drop_at (take i l) (x % 256 ∷ drop (suc i) l) i (length-take-le i l (omega arith)))
-    (sym (append_assoc (octets i (x / 256)) (x % 256 ∷ []) (drop (suc i) l)) ∙ e)
+be_octets zero x = refl
+be_octets (suc w) x = be_octets_more w x ∙ ap (λ (l : List ℕ). l ++ (x % 256 ∷ [])) (be_octets w (x / 256))
+
+pub octets_one : (x : ℕ) → x < 256 → x ∷ [] ≡ octets 1 x
+unfolding octets
+octets_one x h = ap (λ (y : ℕ). y ∷ []) (sym (mod-eq_of_lt h))
 
 -- The octets of a number make it again, as far as they reach.
 pub number_octets : (w x : ℕ) → number w (octets w x) 0 ≡ x % 256 ^ w

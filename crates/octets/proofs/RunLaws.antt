@@ -139,11 +139,6 @@ module _ (s : List ℕ) (at : ℕ) (p : List ℕ) (fits : at + length p ≤ leng
       (ap (λ (x : ℕ). drop x (laid s at p)) e ∙ sym (drop-drop more (at + length p) (laid s at p))
       ∙ ap (drop more) (laid_drop s at p fits) ∙ drop-drop more (at + length p) s ∙ ap (λ (x : ℕ). drop x s) (sym e))
 
--- What has a run laid down at place 0 begins with it.
-pub laid_first : (s p t : List ℕ) → length p ≤ length s → t ≡ laid s 0 p → take (length p) t ≡ p
-unfolding run
-laid_first s p t fits e = rw e (run_laid s 0 p (omega arith))
-
 -- Laying down nothing changes nothing.
 pub laid_nothing : (s : List ℕ) (at : ℕ) → at ≤ length s → laid s at [] ≡ s
 laid_nothing s at h =

@@ -5,59 +5,82 @@
 // down at all, and the slice stays as it is. Nothing here knows of ADP.
 #![tactic(auto)]
 
-ghost use Rattle.std.specs.Prelude.{◌≡◌, ◌+◌, ◌≤◌, ◌<◌, leb, length, drop};
+ghost use Rattle.std.specs.Prelude.{◌≡◌, ◌+◌, leb, drop, get_or, set as set_at};
 ghost use Rattle.octets.specs.Number.{number, octets};
 ghost use Rattle.octets.specs.Run.{run as run_of, laid};
 
-// The longest run that is moved at once. What a network's packet carries is shorter.
-const PART: usize = 2_048;
+use std::array::from_fn;
 
 // ---- reading
 
+#[tactic(auto, using(crate::proofs::NumberLaws::number_one))]
 pub fn read1(s: &[u8], at: usize) -> u8
     ensures { result ≡ number 1 s.now at }
 {
-    if at < s.len() { s[at] } else { 0 }
+    s.get(at).copied().unwrap_or(0)
 }
 
 pub fn read2(s: &[u8], at: usize) -> u16
     ensures { result ≡ number 2 s.now at }
 {
-    let t = from(s, at);
-    read1(t, 0) as u16 * 256 + read1(t, 1) as u16
+    u16::from_be_bytes(array(s, at))
 }
 
 pub fn read4(s: &[u8], at: usize) -> u32
     ensures { result ≡ number 4 s.now at }
 {
-    let t = from(s, at);
-    read2(t, 0) as u32 * 65_536 + read2(t, 2) as u32
+    u32::from_be_bytes(array(s, at))
 }
 
 pub fn read8(s: &[u8], at: usize) -> u64
     ensures { result ≡ number 8 s.now at }
 {
-    let t = from(s, at);
-    read4(t, 0) as u64 * 4_294_967_296 + read4(t, 4) as u64
+    u64::from_be_bytes(array(s, at))
+}
+
+// The W octets from a place on, 0 for each past the end.
+fn array<const W: usize>(s: &[u8], at: usize) -> [u8; W]
+    ensures { number W result 0 ≡ number W s.now at }
+{
+    let part = from(s, at);
+    match part.first_chunk() {
+        Some(whole) => *whole,
+        None => from_fn(|i| read1(part, i)),
+    }
 }
 
 // The part of a slice from a place on, empty past its end, so that no place is counted past the largest usize.
 pub fn from(s: &[u8], at: usize) -> &[u8]
     ensures { result.now ≡ drop at s.now }
 {
-    if at < s.len() {
-        &s[at..]
-    } else {
-        &s[s.len()..]
-    }
+    s.get(at..).unwrap_or(&[])
 }
 
 // The n octets from a place on, as far as there are so many.
+#[tactic(auto, unfolding(crate::specs::Run::run))]
 pub fn run(s: &[u8], at: usize, n: usize) -> &[u8]
     ensures { result.now ≡ run_of at n s.now }
 {
     let rest = from(s, at);
-    if n < rest.len() { &rest[..n] } else { rest }
+    rest.get(..n).unwrap_or(rest)
+}
+
+// ---- one element of any slice
+
+// The element at a place, `none` past the end.
+pub fn at<T: Copy>(s: &[T], k: usize, none: T) -> T
+    ensures { result ≡ get_or s.now k none }
+{
+    s.get(k).copied().unwrap_or(none)
+}
+
+// Puts an element down at a place, if there is one.
+pub fn put<T: Copy>(s: &mut [T], k: usize, x: T)
+    ensures { s.new ≡ set_at s.old k x }
+{
+    if k < s.len() {
+        s[k] = x;
+    }
 }
 
 // ---- writing
@@ -66,18 +89,21 @@ pub fn run(s: &[u8], at: usize, n: usize) -> &[u8]
 pub fn lay(s: &mut [u8], at: usize, run: &[u8])
     ensures { s.new ≡ laid s.old at run.now }
 {
-    if ends_within(s.len(), at, run.len()) {
-        move_over(s, at, run);
+    let n = run.len();
+    if ends_within(s.len(), at, n) {
+        s[at..at + n].copy_from_slice(run);
     }
 }
 
-// The same for a slice that is slow memory: each octet is stored once, in rising order, and none is read, which a memmove
-// need not do. No contract says that; bench/stores shows it.
+// The same for a slice that is slow memory: each octet is stored once, in rising order, and none is read, which a
+// memmove need not do. No contract says that; bench/stores shows it.
 pub fn lay_once(s: &mut [u8], at: usize, run: &[u8])
     ensures { s.new ≡ laid s.old at run.now }
 {
     if ends_within(s.len(), at, run.len()) {
-        copy(s, at, run);
+        for (i, x) in run.iter().enumerate() {
+            s[at + i] = *x;
+        }
     }
 }
 
@@ -85,80 +111,24 @@ pub fn lay_once(s: &mut [u8], at: usize, run: &[u8])
 fn ends_within(room: usize, at: usize, n: usize) -> bool
     ensures { result ≡ leb (at + n) room }
 {
-    if room < n {
-        return false;
-    }
-    at <= room - n
+    (n <= room) && (at <= room - n)
 }
 
-// Lays down a run that ends within the slice. The compiler does not know that run and slice lie apart, so it leaves a
-// copy from one to the other a loop. A local array lies apart from both: through it a short run is copied twice, and
-// both copies compile to one memmove, with no array left.
-fn move_over(s: &mut [u8], at: usize, run: &[u8])
-    requires { at + length run.now ≤ length s.old }
-    ensures { s.new ≡ laid s.old at run.now }
+#[tactic(auto, using(crate::proofs::NumberLaws::octets_one))]
+pub fn write1(s: &mut [u8], at: usize, octet: u8)
+    ensures { s.new ≡ laid s.old at (octets 1 octet) }
 {
-    let n = run.len();
-    if n <= PART {
-        let mut part = [0u8; PART];
-        copy(&mut part, 0, run);
-        copy(s, at, &part[..n]);
-    } else {
-        copy(s, at, run);
-    }
-}
-
-// The count is a variable, which compiles to moves of 16 octets where it stays a loop.
-fn copy(s: &mut [u8], at: usize, run: &[u8])
-    requires { at + length run.now ≤ length s.old }
-    ensures { s.new ≡ laid s.old at run.now }
-{
-    let mut i = 0;
-    while i < run.len() {
-        s[at + i] = run[i];
-        i += 1;
-    }
-}
-
-// Lays the low w octets of a number down at a place. Each caller gives a constant w, so that nothing of the loop and of
-// the octets not asked for is left in what it compiles to.
-fn write(s: &mut [u8], at: usize, w: usize, x: u64)
-    requires { w ≤ 8 }
-    ensures { s.new ≡ laid s.old at (octets w x) }
-{
-    let run = octets_of(x);
-    lay(s, at, from(&run, 8 - w));
-}
-
-// All octets of a number, found from the low one up.
-fn octets_of(x: u64) -> [u8; 8]
-    ensures { result ≡ octets 8 x }
-{
-    let mut run = [0u8; 8];
-    let mut rest = x;
-    let mut i: usize = 8;
-    while 0 < i {
-        i -= 1;
-        run[i] = (rest % 256) as u8;
-        rest = rest / 256;
-    }
-    run
-}
-
-pub fn write1(s: &mut [u8], at: usize, x: u8)
-    ensures { s.new ≡ laid s.old at (octets 1 x) }
-{
-    write(s, at, 1, x as u64);
+    lay(s, at, &octet.to_be_bytes());
 }
 
 pub fn write2(s: &mut [u8], at: usize, x: u16)
     ensures { s.new ≡ laid s.old at (octets 2 x) }
 {
-    write(s, at, 2, x as u64);
+    lay(s, at, &x.to_be_bytes());
 }
 
 pub fn write4(s: &mut [u8], at: usize, word: u32)
     ensures { s.new ≡ laid s.old at (octets 4 word) }
 {
-    write(s, at, 4, word as u64);
+    lay(s, at, &word.to_be_bytes());
 }

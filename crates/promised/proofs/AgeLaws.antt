@@ -1,5 +1,6 @@
 -- With 17, and with nothing else, a packet is told how far its number lies behind the number last delivered. Assumes nothing.
 use Rattle.std.specs.Prelude.{ℕ, ◌≤◌, ◌≡◌, ◌≢◌, Bool, true, false, List, [], ◌∷◌, ◌++◌, eqb, length, take, drop}
+use Rattle.refusal.specs.declared.Refusal.TheVariants as refusals
 use Rattle.std.proofs.Math.Path.{refl}
 use Rattle.std.proofs.Common.{arith, eqb-true, ne_eqb}
 use Rattle.octets.specs.Split.{cond_case}
@@ -15,7 +16,7 @@ use Rattle.state.specs.Table.{source}
 use Rattle.answers.specs.declared.Setup.{Setup}
 use Rattle.answers.specs.Told.{OutcomeTold, not_delivered, age_with, MessageTold, GroupTold}
 use Rattle.rules.specs.calls.First.{Row, row, first}
-use Rattle.rules.proofs.calls.FirstLaws.{first_none, first_neither, first_own, numbered, without}
+use Rattle.rules.proofs.calls.FirstLaws.{first_none, first_neither, first_own, without}
 use Rattle.rules.specs.calls.Multicast.{Tables}
 use Rattle.rules.specs.pasts.Past.{World}
 use Rattle.promised.specs.Age.{HowOld}
@@ -29,7 +30,6 @@ use Rattle.promised.specs.Says.{senders_of, place_of, rows_for, message_by, rows
 
 -- No other row has the number 17, neither in front of its own nor behind it.
 record Alone (front back : List Row) : Type 0 where
-  numbers : numbered front ≡ true
   in_front : without 17 front ≡ true
   behind : without 17 back ≡ true
 
@@ -38,7 +38,7 @@ module _ (n1 : ℕ) (rv : Version) (r : Number) (v : Version) (s : Number) (fron
   verdict = check n1 rv r v s
 
   abbrev given : ℕ
-  given = first (front ++ (row 17 (is_repeat verdict) ∷ back))
+  given = first (front ++ (row refusals.Repeat (is_repeat verdict) ∷ back))
 
   -- A refusal with 17 says how far back the repeat lies,
   refused_age : (given ≡ 17 → rv.0 ≢ 0 → OnRing r.0 × OnRing s.0) → HowOld n1 r s (not_delivered given (age_with given verdict))
@@ -50,17 +50,17 @@ module _ (n1 : ℕ) (rv : Version) (r : Number) (v : Version) (s : Number) (fron
   }
     where
       repeats : given ≡ 17 → is_repeat verdict ≡ true
-      repeats = first_own 17 (is_repeat verdict) front back (λ z. omega (arith, z)) alone.numbers alone.in_front alone.behind
+      repeats = first_own refusals.Repeat (is_repeat verdict) front back alone.in_front alone.behind
 
   -- and what is taken is no repeat.
   taken_age : given ≡ 0 → (told : OutcomeTold) → told.number ≤ 1 → (is_repeat verdict ≡ false → told.age ≡ 0) → HowOld n1 r s told
   taken_age none told low plain =
-      let own = (first_neither front (row 17 (is_repeat verdict) ∷ back) alone.numbers none).1 in
+      let own = (first_neither front (row refusals.Repeat (is_repeat verdict) ∷ back) none).1 in
       record {
         age = λ e. absurd (omega (arith, e, low));
         below = λ e. absurd (omega (arith, e, low));
         none = λ e. absurd (omega (arith, e, low));
-        otherwise = λ _. plain (first_none 17 (is_repeat verdict) back (λ z. omega arith) own).0;
+        otherwise = λ _. plain (first_none _ (is_repeat verdict) back own).0;
       }
 
 -- ---- a message, and a packet to a group
@@ -73,8 +73,8 @@ module _ (q : Setup) (last : Name) (packet : List ℕ) where
   Old = HowOld q.n1 last.number (name_of packet).number
 
   message_alone : (packets : List (List ℕ)) → Alone (take 5 (rows_for q its packets packet)) (drop 6 (rows_for q its packets packet))
-  unfolding numbered without
-  message_alone packets = record { numbers = refl; in_front = refl; behind = refl }
+  unfolding without
+  message_alone packets = record { in_front = refl; behind = refl }
 
   -- The last number and the packet's are 1 to M where k is 17.
   abbrev Ring : ℕ → Type 0
@@ -90,8 +90,8 @@ module _ (q : Setup) (last : Name) (packet : List ℕ) where
       (λ _. refused_age _ _ _ _ _ _ _ (message_alone packets) ring)
 
   cast_alone : (right : Bool) (g : ℕ) → Alone (take 7 (rows_cast q right its g packet)) []
-  unfolding numbered without
-  cast_alone right g = record { numbers = refl; in_front = refl; behind = refl }
+  unfolding without
+  cast_alone right g = record { in_front = refl; behind = refl }
 
   pub cast_age : (right : Bool) (t : Tables) (g : ℕ) → Ring (first (rows_cast q right its g packet)) → Old (cast_by q right its t g packet).0.outcome
   cast_age right t g ring =

@@ -35,6 +35,7 @@ use Rattle.rules.proofs.calls.ChangesLaws.{message_only, alive_only}
 use Rattle.rules.specs.calls.Clock.{dies, aged}
 use Rattle.rules.proofs.calls.ClockLaws.{clock_at}
 use Rattle.rules.specs.calls.First.{first}
+use Rattle.rules.proofs.calls.FirstLaws.{checked_none, check_case}
 use Rattle.rules.specs.calls.Message.{with_sender}
 use Rattle.rules.specs.pasts.Past.{World, Event, message, alive, clock, aside, step, after, Start}
 use Rattle.rules.proofs.pasts.PastLaws.{Sound, start_sound, start_clock, start_sender, same_count, step_sound}
@@ -151,11 +152,10 @@ module _ (w : World) (sound : Sound w) (i : ℕ) (here : i < w.state.count) wher
   other_kept : (packet : List ℕ) → is_signal a packet ≡ false → living (sender_at (alive_answer w.state packet).state i) ≡ living s
   unfolding alive_answer
   other_kept packet e =
-      let number = first (alive_rows w.state packet) in
-      cond_case (λ (x : Noted). living (sender_at x.state i) ≡ living s) (eqb number 0) _ _
+      check_case (λ (x : Noted). living (sender_at x.state i) ≡ living s) (alive_rows w.state packet) _ _
       (λ z. set_kept living w sound i here (found w.state (head_of packet)) _
-      (λ q. absurd (found_other w.state sound.is_valid i here packet (heeded_other a packet w.state e (eqb-true number 0 z)) (sym q))))
-      (λ _. refl)
+      (λ q. absurd (found_other w.state sound.is_valid i here packet (heeded_other a packet w.state e z) (sym q))))
+      (λ r _. refl)
 
   being_own : (packet : List ℕ) → is_signal a packet ≡ true → being (step w (alive packet)) i ≡ being_by a (being w i) (alive packet)
   unfolding being step sender_by moved_by alive_answer with_sender
@@ -163,7 +163,7 @@ module _ (w : World) (sound : Sound w) (i : ℕ) (here : i < w.state.count) wher
       let there : i < length w.state.senders = omega (arith, valid_length w.state sound.is_valid) in
       let place = found_own w.state sound.is_valid i here packet (signal_own a packet e) in
       rw (
-        signal_none a packet w.state e sound.is_valid (rw place here),
+        checked_none (alive_rows w.state packet) (signal_none a packet w.state e sound.is_valid (rw place here)),
         place,
         e,
         get_or-set_same w.state.senders i (heard_by w.state.clock s (body_of packet)) no_sender there,

@@ -1,5 +1,5 @@
 -- A packet to a group is told what 02's rules say of setup's arguments and the tables that are lent. Assumes nothing.
-use Rattle.std.specs.Prelude.{ℕ, ◌≤◌, ◌<◌, Bool, not, ◌&&◌, List, [], eqb, leb, take}
+use Rattle.std.specs.Prelude.{ℕ, ◌≤◌, ◌<◌, Bool, not, ◌&&◌, List, [], eqb, leb, take, Result, Ok, Err}
 use Rattle.std.proofs.Math.Path.{◌≡◌, refl}
 use Rattle.std.proofs.Common.{ap, ◌∙◌, arith, le-leb, leb-false, ne_eqb}
 use Rattle.std.proofs.Math.Logic.{⊎_elim}
@@ -18,12 +18,14 @@ use Rattle.state.specs.Table.{source, found}
 use Rattle.state.proofs.WithinLaws.{valid_groups}
 use Rattle.answers.specs.declared.Listener.{Listener}
 use Rattle.answers.specs.declared.Outcome.{Outcome}
-use Rattle.answers.specs.declared.Outcome.TheVariants.{Refused, Delivered}
+use Rattle.answers.specs.declared.Outcome.TheVariants.{Delivered}
 use Rattle.answers.specs.declared.Setup.{Setup}
-use Rattle.answers.specs.Told.{GroupTold, group_told, delivered_as, age_with, group_refused}
+use Rattle.refusal.specs.declared.Refusal.{Refusal}
+use Rattle.refusal.specs.Numbers.{number_of, number_in}
+use Rattle.answers.specs.Told.{refusal, GroupTold, group_told, delivered_as, age_with, group_refused}
 use Rattle.answers.proofs.ToldLaws.{age_same}
-use Rattle.rules.specs.calls.First.{Row, first}
-use Rattle.rules.proofs.calls.FirstLaws.{first_none, first_neither, numbered, without, behind_without}
+use Rattle.rules.specs.calls.First.{Row, checked, first, by_check}
+use Rattle.rules.proofs.calls.FirstLaws.{first_is, some_number, first_none, first_neither, without, behind_without}
 use Rattle.rules.specs.calls.Multicast.{Tables, with_entry, place_for, verdict_in, cast_rows, listening, cast_outcome, kept_by, handed_by, group_answer, multicast_answer, multicast_tables}
 use Rattle.rules.specs.calls.Part.{part_of}
 use Rattle.rules.proofs.calls.SetupLaws.{setup_facts}
@@ -37,7 +39,7 @@ use Rattle.promised.proofs.MessageSaysLaws.{online_is}
 use Rattle.promised.proofs.SaysLaws.{place_is, accepted_setup}
 
 -- Delivered or refused, with the tables and the part.
-module _ (t : Tables) (k : ℕ) (h : Head) (packet storage : List ℕ) (v : Verdict) (number age : ℕ) where
+module _ (t : Tables) (k : ℕ) (h : Head) (packet storage : List ℕ) (v : Verdict) where
   abbrev Three : Type 0
   Three = GroupTold × Tables × List ℕ
 
@@ -51,16 +53,17 @@ module _ (t : Tables) (k : ℕ) (h : Head) (packet storage : List ℕ) (v : Verd
     drop 64 packet,
   )
 
-  either_way : (b : Bool) → made (cond b (Delivered v) (Refused number age)) ≡ cond b delivered (group_refused number age, t, [])
+  either_way : (x : Result (Unit {0}) Refusal) → made (by_check x (Delivered v) (λ r. refusal r v))
+      ≡ cond (eqb (number_in x) 0) delivered (group_refused (number_in x) (age_with (number_in x) v), t, [])
   unfolding kept_by
-  either_way true = by (is_unchecked v)
+  either_way (Ok y) = by (is_unchecked v)
     where
       by : (u : Bool) → ◌≡◌ {A = Three}
           (record { outcome = delivered_as v; lies = record { slice = 1; start = 0; length = 0 } }, cond (not u) (with_entry t k h.given.version h.given.number) t, drop 64 packet)
           (record { outcome = delivered_as v; lies = record { slice = 1; start = 0; length = 0 } }, cond u t (with_entry t k h.given.version h.given.number), drop 64 packet)
       by true = refl
       by false = refl
-  either_way false = refl
+  either_way (Err r) = rw (ne_eqb (number_of r) 0 (some_number r))
 
 module _ (q : Setup) (log : List Exchange) (w : World) (a : Agrees q log w) (t : Tables) (g : ℕ) (packet : List ℕ) where
   abbrev h : Head
@@ -116,10 +119,10 @@ module _ (q : Setup) (log : List Exchange) (w : World) (a : Agrees q log w) (t :
 
   earlier_here : first earlier ≡ 0 → found w.state h < w.state.count
   earlier_here none =
-      let r26 = first_none 26 (not (has_tables q t)) _ (λ e. omega arith) none in
-      let r12 = first_none 12 (not (has_length 64 1472 packet)) _ (λ e. omega arith) r26.1 in
-      let r13 = first_none 13 (not (is_message packet)) _ (λ e. omega arith) r12.1 in
-      let r14 = first_none 14 (leb (length (senders_of q)) (place_of (senders_of q) (source h))) _ (λ e. omega arith) r13.1 in
+      let r26 = first_none _ (not (has_tables q t)) _ none in
+      let r12 = first_none _ (not (has_length 64 1472 packet)) _ r26.1 in
+      let r13 = first_none _ (not (is_message packet)) _ r12.1 in
+      let r14 = first_none _ (leb (length (senders_of q)) (place_of (senders_of q) (source h))) _ r13.1 in
       omega (arith, leb-false (length (senders_of q)) (place_of (senders_of q) (source h)) r14.0, place_is q log w a (source h) packet refl, a.count)
 
   abbrev later : List Row
@@ -127,20 +130,20 @@ module _ (q : Setup) (log : List Exchange) (w : World) (a : Agrees q log w) (t :
 
   -- An unknown sender's packet is refused,
   refused_unknown : w.state.count ≤ found w.state h → eqb number 0 ≡ false
-  refused_unknown none = ne_eqb number 0 (λ z. omega (arith, none, earlier_here (first_neither earlier later (unfold numbered in refl) z).0))
+  refused_unknown none = ne_eqb number 0 (λ z. omega (arith, none, earlier_here (first_neither earlier later z).0))
 
   -- and not with 17.
   same_age : age_with number (verdict_in s t g h) ≡ age_with number verdict
   same_age = age_same number _ _ (λ e.
-      verdict_is (earlier_here (behind_without 17 earlier later (λ z. omega (arith, z)) (unfold numbered in refl) (unfold without in refl) e)))
+      verdict_is (earlier_here (behind_without 17 earlier later (λ z. omega (arith, z)) (unfold without in refl) e)))
 
   pub cast_says_lem : ◌≡◌ {A = GroupTold × Tables × List ℕ}
       (group_told (multicast_answer w.state t g packet), multicast_tables w.state t g packet, part_of (multicast_answer w.state t g packet).lies packet w.storage)
       (cast_says q t g packet)
   unfolding multicast_answer multicast_tables cast_outcome cast_says
   cast_says_lem =
-      let n = first (cast_rows s t g packet h) in
-      either_way t (place_for s g h) h packet w.storage (verdict_in s t g h) n (age_with n (verdict_in s t g h)) (eqb n 0) ∙ rw (cast_number, same_age) (⊎_elim
+      either_way t (place_for s g h) h packet w.storage (verdict_in s t g h) (checked (cast_rows s t g packet h))
+      ∙ rw (← first_is (cast_rows s t g packet h), cast_number, same_age) (⊎_elim
       (λ (here : found w.state h < w.state.count). rw (verdict_is here, cast_entry))
       (λ (none : w.state.count ≤ found w.state h). rw (refused_unknown none))
       (lt_or_le (found w.state h) w.state.count))

@@ -1,6 +1,10 @@
 -- The tables by the past alone: where they are handed on, each entry holds the version and number of the last message that was
 -- delivered there and not unchecked, or what it began with. Assumes nothing.
-use Rattle.std.specs.Prelude.{ℕ, ◌*◌, ◌<◌, ◌≡◌, refl, ◌≢◌, Bool, true, false, not, cond, ◌&&◌, List, [], ◌∷◌, ◌++◌, eqb, leb}
+use Rattle.std.specs.Prelude.{ℕ, ◌*◌, ◌<◌, ◌≡◌, refl, ◌≢◌, Bool, true, false, not, cond, ◌&&◌, List, [], ◌∷◌, ◌++◌, eqb, leb, Err}
+use Rattle.refusal.specs.declared.Refusal.{Refusal}
+use Rattle.refusal.specs.Numbers.{number_of}
+use Rattle.refusal.proofs.NumbersLaws.{nine_or_more}
+use Rattle.refusal.specs.declared.Refusal.TheVariants as refusals
 use Rattle.std.proofs.Common.{sym, subst, ◌∙◌, ⊎_elim, arith}
 use Rattle.std.proofs.Math.Path.{ap}
 use Rattle.std.proofs.Math.ListN.{length}
@@ -24,9 +28,9 @@ use Rattle.state.specs.Table.{source}
 use Rattle.state.proofs.WithinLaws.{last_ring, same_is, valid_groups}
 use Rattle.answers.specs.declared.Listener.{Listener}
 use Rattle.answers.specs.declared.Setup.{Setup}
-use Rattle.rules.specs.calls.First.{Row, row, first, Given}
-use Rattle.rules.proofs.calls.FirstLaws.{first_none, first_append, numbered, without, first_without, behind_without, first_given, given_above}
-use Rattle.rules.proofs.calls.ExactlyLaws.{multicast_above, multicast_refuses}
+use Rattle.rules.specs.calls.First.{Row, row, checked, first, Given}
+use Rattle.rules.proofs.calls.FirstLaws.{first_none, first_append, without, first_without, behind_without, first_given, refusal_given, some_number, checked_none}
+use Rattle.rules.proofs.calls.ExactlyLaws.{multicast_refuses}
 use Rattle.rules.specs.calls.Message.{head_within}
 use Rattle.rules.specs.calls.Multicast.{Tables, entries_of, entry_place, entry_at, with_entry, place_for, one_piece, verdict_in, cast_rows, listening, cast_outcome, kept_by, multicast_rows, multicast_answer, multicast_tables}
 use Rattle.rules.proofs.calls.MessageLaws.{head_pri, head_number}
@@ -75,20 +79,19 @@ module _ (q : Setup) (begun : Tables) (log : List Exchange) (w : World) (a : Agr
 
   -- It is refused.
   module _ (refuses : first (cast_rows s t g packet h) ≢ 0) where
-    abbrev number : ℕ
-    number = first (cast_rows s t g packet h)
+    abbrev given_by : (r : Refusal) × ((checked (cast_rows s t g packet h) ≡ Err r) × (first (cast_rows s t g packet h) ≡ number_of r))
+    given_by = refusal_given (cast_rows s t g packet h) refuses
 
-    given_number : Given (multicast_rows w.state t g packet) number
-    given_number = first_given (multicast_rows w.state t g packet) number refl refuses
+    given_row : Given (multicast_rows w.state t g packet) (number_of given_by.0)
+    given_row = first_given (multicast_rows w.state t g packet) (number_of given_by.0) given_by.1.1 (some_number given_by.0)
 
     no_delivery : casts (x ∷ log) ≡ casts log
     unfolding casts said
     no_delivery =
-        let above-all = given_above 8 (multicast_rows w.state t g packet) number (multicast_above w.state t g packet) given_number in
-        rw ((multicast_refuses w.state t g packet number given_number).0, ne_eqb number 1 (λ z. omega (arith, above-all, z)))
+        rw ((multicast_refuses w.state t g packet given_by.0 given_row).0, ne_eqb (number_of given_by.0) 1 (λ z. omega (arith, nine_or_more given_by.0, z)))
 
     refused : Entries q begun (x ∷ log) (multicast_tables w.state t g packet)
-    refused = rw (multicast_refuses w.state t g packet number given_number).1
+    refused = rw (multicast_refuses w.state t g packet given_by.0 given_row).1
         (record { right = inv.right; entry = λ i j p b c d. rw no_delivery (inv.entry i j p b c d) })
 
   -- It is delivered.
@@ -104,11 +107,11 @@ module _ (q : Setup) (begun : Tables) (log : List Exchange) (w : World) (a : Agr
 
     one_delivery : casts (x ∷ log) ≡ told ∷ casts log
     unfolding casts said multicast_answer cast_outcome
-    one_delivery = rw none
+    one_delivery = rw (checked_none (cast_rows s t g packet h) none)
 
     written : multicast_tables w.state t g packet ≡ cond (not (is_unchecked v)) (with_entry t (place_for s g h) h.given.version h.given.number) t
     unfolding multicast_tables cast_outcome kept_by
-    written = rw none
+    written = rw (checked_none (cast_rows s t g packet h) none)
 
     abbrev i₀ : ℕ
     i₀ = place_of (senders_of q) (source h)
@@ -228,11 +231,11 @@ module _ (q : Setup) (begun : Tables) (log : List Exchange) (t : Tables) (inv : 
   -- 26, 12 to 14 and 25; then 15 to 17.
   abbrev earlier : List Row
   earlier =
-      row 26 (not true) ∷ row 12 (not (has_length 64 1472 packet)) ∷ row 13 (not (is_message packet)) ∷ row 14 (leb (length (senders_of q)) its_place)
-      ∷ row 25 (leb (groups_of q).count its_group) ∷ []
+      row refusals.Tables (not true) ∷ row refusals.Length (not (has_length 64 1472 packet)) ∷ row refusals.Header (not (is_message packet)) ∷ row refusals.Sender (leb (length (senders_of q)) its_place)
+      ∷ row refusals.Group (leb (groups_of q).count its_group) ∷ []
 
   abbrev later : Verdict → List Row
-  later v = row 15 (eqb (head_of packet).given.mode 1 && eqb q.mode 0) ∷ row 16 (not (one_piece (head_of packet).cut)) ∷ row 17 (is_repeat v) ∷ []
+  later v = row refusals.Test (eqb (head_of packet).given.mode 1 && eqb q.mode 0) ∷ row refusals.Cut (not (one_piece (head_of packet).cut)) ∷ row refusals.Repeat (is_repeat v) ∷ []
 
   abbrev by_table : Verdict
   by_table = verdict_after q (name_at t (entry_for q g packet)) (name_of packet)
@@ -249,11 +252,11 @@ module _ (q : Setup) (begun : Tables) (log : List Exchange) (t : Tables) (inv : 
 
   reaches : first earlier ≡ 0 → Reaches
   reaches none =
-      let r26 = first_none 26 (not true) _ (λ z. omega arith) none in
-      let r12 = first_none 12 (not (has_length 64 1472 packet)) _ (λ z. omega arith) r26.1 in
-      let r13 = first_none 13 (not (is_message packet)) _ (λ z. omega arith) r12.1 in
-      let r14 = first_none 14 (leb (length (senders_of q)) its_place) _ (λ z. omega arith) r13.1 in
-      let r25 = first_none 25 (leb (groups_of q).count its_group) _ (λ z. omega arith) r14.1 in
+      let r26 = first_none _ (not true) _ none in
+      let r12 = first_none _ (not (has_length 64 1472 packet)) _ r26.1 in
+      let r13 = first_none _ (not (is_message packet)) _ r12.1 in
+      let r14 = first_none _ (leb (length (senders_of q)) its_place) _ r13.1 in
+      let r25 = first_none _ (leb (groups_of q).count its_group) _ r14.1 in
       let is_message_lem = message_head packet ∙ not-false (is_message packet) r13.0 in
       record {
         known = leb-false (length (senders_of q)) its_place r14.0;
@@ -278,7 +281,7 @@ module _ (q : Setup) (begun : Tables) (log : List Exchange) (t : Tables) (inv : 
   pub heard_ring : first (rows_cast q true by_past g packet) ≡ 17 → (last_heard q begun log g packet).version.0 ≢ 0
       → OnRing (last_heard q begun log g packet).number.0 × OnRing (name_of packet).number.0
   heard_ring e some =
-      let f = reaches (behind_without 17 earlier (later by_past) (λ z. omega (arith, z)) (unfold numbered in refl) (unfold without in refl) e) in
+      let f = reaches (behind_without 17 earlier (later by_past) (λ z. omega (arith, z)) (unfold without in refl) e) in
       let k = entry_for q g packet in
       let n = length (senders_of q) * (groups_of q).count * 8 in
       let below : k < n = place_below (length (senders_of q)) (groups_of q).count its_place its_group (head_of packet).given.pri f.known f.registered f.pri in
@@ -299,4 +302,4 @@ module _ (q : Setup) (begun : Tables) (log : List Exchange) (t : Tables) (inv : 
       (eq_or_ne (first earlier) 0))
     where
       stops : (v : Verdict) → first earlier ≢ 0 → first (earlier ++ later v) ≡ first earlier
-      stops v some = first_append earlier (later v) (unfold numbered in refl) ∙ rw (ne_eqb (first earlier) 0 some)
+      stops v some = first_append earlier (later v) ∙ rw (ne_eqb (first earlier) 0 some)

@@ -17,15 +17,14 @@ use Rattle.state.specs.declared.Receiver.{Receiver}
 use Rattle.state.specs.Limits.{same_address, clock_most, valid}
 use Rattle.state.specs.declared.Sender.{Sender}
 use Rattle.state.specs.State.{no_sender, sender_at, Settings, with_heard}
-use Rattle.state.specs.Table.{source, found}
+use Rattle.state.specs.Table.{source}
 use Rattle.answers.specs.declared.Noted.{Noted}
 use Rattle.answers.specs.Told.{OutcomeTold, not_delivered, age_with, outcome_told, MessageTold, message_told, message_refused, call_number, clock_told}
-use Rattle.rules.specs.calls.Admit.{sender_rows}
-use Rattle.rules.specs.calls.Alive.{alive_rows, heard_by, noted, not_noted, alive_answer}
+use Rattle.rules.specs.calls.Alive.{alive_rows, heard_by, alive_answer}
 use Rattle.rules.specs.calls.Clock.{drops, dies, aged, ticked, not_ticked, clock_answer}
 use Rattle.rules.proofs.calls.ClockLaws.{clock_back_lem, clock_on, map_bit}
 use Rattle.rules.specs.calls.First.{first}
-use Rattle.rules.proofs.calls.FirstLaws.{above, first_given, given_above}
+use Rattle.rules.proofs.calls.FirstLaws.{refusal_given, given_number, check_case}
 use Rattle.rules.specs.calls.Message.{message_rows, message_number, verdict_at, message_answer, refused}
 use Rattle.rules.specs.pasts.Past.{World, Event, message, alive, clock, aside, step, answer_to, said}
 use Rattle.promised.specs.Judged.{in_order, is_from, sent_from}
@@ -47,10 +46,12 @@ module _ (w : World) (p : List ℕ) (ne : message_number w.state (length w.stora
   pub refused_told : message_told (answer_to w p)
       ≡ message_refused (message_number w.state (length w.storage) p) (age_with (message_number w.state (length w.storage) p) (verdict_at w.state (head_of p)))
   unfolding message_answer refused
-  refused_told = rw (ne_eqb (message_number w.state (length w.storage) p) 0 ne)
+  refused_told =
+      let given = refusal_given (message_rows w.state (length w.storage) p) ne in
+      rw (given.1.0, given.1.1)
 
   pub refused_above : 8 < message_number w.state (length w.storage) p
-  refused_above = given_above 8 (message_rows w.state (length w.storage) p) _ (unfold message_rows sender_rows above in refl) (first_given _ _ refl ne)
+  refused_above = given_number (message_rows w.state (length w.storage) p) ne
 
 -- ---- a call with a packet
 
@@ -200,11 +201,7 @@ LivesLog a i log w = living (sender_at w.state i) ≡ living_of (life_of a i log
 
 pub alive_number : (w : Receiver) (packet : List ℕ) → call_number (alive_answer w packet).call ≡ first (alive_rows w packet)
 unfolding alive_answer
-alive_number w packet = by (first (alive_rows w packet)) (eqb (first (alive_rows w packet)) 0) refl
-  where
-    by : (k : ℕ) (b : Bool) → eqb k 0 ≡ b → call_number (cond {A = Noted} b (noted w (found w (head_of packet)) (body_of packet)) (not_noted w k)).call ≡ k
-    by k true e = sym (eqb-true k 0 e)
-    by k false e = refl
+alive_number w packet = check_case (λ (a : Noted). call_number a.call ≡ first (alive_rows w packet)) (alive_rows w packet) _ _ (λ e. sym e) (λ r e. sym e)
 
 heard_log : (now : ℕ) (l : Life) (packet : List ℕ) → heard_by now (living_of l) (body_of packet) ≡ living_of (heard_at now packet)
 unfolding heard_by

@@ -29,8 +29,8 @@ use Rattle.answers.specs.Told.{OutcomeTold, outcome_told}
 use Rattle.rules.specs.calls.Admit.{rejoins, map_before, map_after, fills, verdict_of, sender_rows, sender_after, admitted, not_admitted, admission}
 use Rattle.rules.proofs.calls.AdmitLaws.{Admitted, admitted_facts, rejoins_open, map_adds, map_one_more, fills_full}
 use Rattle.rules.specs.calls.Clock.{drops, aged}
-use Rattle.rules.specs.calls.First.{first}
-use Rattle.rules.proofs.calls.FirstLaws.{above, first_given, given_above}
+use Rattle.rules.specs.calls.First.{Row, first}
+use Rattle.rules.proofs.calls.FirstLaws.{above, first_given, given_above, checked_none, refusal_given}
 use Rattle.rules.specs.pasts.Past.{message}
 use Rattle.promised.specs.Join.{Kin, kin_of}
 use Rattle.promised.proofs.JoinLaws.{kin_in, Inv, before_both, next_inv}
@@ -125,23 +125,25 @@ module _ (g : Settings) (v : View) (p : List ℕ) where
   abbrev n : ℕ
   n = number_of g v p
 
-  abbrev told : ℕ
-  told = (outcome_told (outcome_view g v p)).number
+  abbrev rows : List Row
+  rows = sender_rows g.test g.n1 v.sender h
 
   pub told_refused : n ≢ 0 → (outcome_told (outcome_view g v p)).number ≡ number_of g v p
   unfolding admission not_admitted
-  told_refused ne = rw (outcome_view, ne_eqb n 0 ne)
+  told_refused ne =
+      let given = refusal_given rows ne in
+      rw (outcome_view, given.1.0) (sym given.1.1)
 
   pub refused_more : n ≢ 0 → 14 < number_of g v p
   refused_more ne = later_number g.test g.n1 v.sender h ne
 
   pub told_delivered : n ≡ 0 → fills v.sender h ≡ true → outcome_view g v p ≡ Delivered (verdict_of g.n1 v.sender h)
   unfolding admission admitted
-  told_delivered none f = rw (outcome_view, none, f)
+  told_delivered none f = rw (outcome_view, checked_none rows none, f)
 
   pub told_stored : n ≡ 0 → fills v.sender h ≡ false → outcome_view g v p ≡ Stored
   unfolding admission admitted
-  told_stored none f = rw (outcome_view, none, f)
+  told_stored none f = rw (outcome_view, checked_none rows none, f)
 
 -- ---- what a packet of the sender's own leaves
 

@@ -1,5 +1,7 @@
 -- A message call is told what `message_says` says. Assumes nothing.
 use Rattle.std.specs.Prelude.{ℕ, ◌-◌, ◌*◌, ◌≤◌, ◌<◌, ◌≡◌, ◌≢◌, Bool, false, cond, ◌&&◌, eqb, leb, length, take}
+use Rattle.refusal.specs.declared.Refusal.{Refusal}
+use Rattle.refusal.specs.declared.Refusal.TheVariants as refusals
 use Rattle.std.proofs.Math.Path.{refl, sym, ap}
 use Rattle.std.proofs.Common.{subst, ◌∙◌, ⊎_elim, arith}
 use Rattle.std.proofs.Math.Bool.{true, not}
@@ -36,7 +38,7 @@ use Rattle.rules.specs.calls.Admit.{kept_after, fills, held_after, none_dropped,
 use Rattle.rules.proofs.calls.AdmitLaws.{Admitted, rejoins_open, drops_or_joins}
 use Rattle.rules.proofs.calls.AdmitValidLaws.{kept_ones}
 use Rattle.rules.specs.calls.First.{Row, row, first}
-use Rattle.rules.proofs.calls.FirstLaws.{first_none, first_later, numbered, without, behind_without}
+use Rattle.rules.proofs.calls.FirstLaws.{checked_none, refusal_given, first_none, first_later, without, behind_without}
 use Rattle.rules.specs.calls.Message.{area, message_rows, message_number, verdict_at, message_answer, lies_at, taken, refused}
 use Rattle.rules.proofs.calls.MessageLaws.{Passed, head_number, taken_facts}
 use Rattle.rules.proofs.calls.SetupLaws.{setup_facts}
@@ -58,10 +60,10 @@ use Rattle.promised.proofs.ViewLaws.{rows_joining, map_joining, fills_joining, R
 -- ---- rows
 
 -- Rows that agree as far as they are tried have the same first.
-rows_on : (k : ℕ) (b c : Bool) (rs qs : List Row) → b ≡ c → (b ≡ false → first rs ≡ first qs) → first (row k b ∷ rs) ≡ first (row k c ∷ qs)
+rows_on : (r : Refusal) (b c : Bool) (rs qs : List Row) → b ≡ c → (b ≡ false → first rs ≡ first qs) → first (row r b ∷ rs) ≡ first (row r c ∷ qs)
 unfolding first
-rows_on k true c rs qs e f = rw (← e)
-rows_on k false c rs qs e f = rw (← e) (f refl)
+rows_on r true c rs qs e f = rw (← e)
+rows_on r false c rs qs e f = rw (← e) (f refl)
 
 -- ---- 15 to 20, by the sender's record and by the log
 
@@ -101,12 +103,12 @@ module _ (last : Name) (now : ℕ) (packets : List (List ℕ)) (stamp : ℕ) (v 
       → first (sender_rows test q.n1 s h) ≡ first (later_rows q (verdict_after q last (name_of p)) packets p)
   unfolding sender_rows
   rows_same q test mode =
-      rows_on 15 _ _ _ _ mode (λ _.
-      rows_on 16 _ _ _ _ refl (λ is.
-      rows_on 17 _ _ _ _ (ap (λ (l : Last). is_repeat (check q.n1 l.version l.number h.given.version h.given.number)) t.same_last) (λ _.
-      rows_on 18 _ _ _ _ (newer_same last now stamp v packets t (name_of p)) (λ _.
-      rows_on 19 _ _ _ _ differs_is (λ same.
-      rows_on 20 _ _ _ _ (held_is_had (not-false (possible h.cut) is) same) (λ _. refl))))))
+      rows_on _ _ _ _ _ mode (λ _.
+      rows_on _ _ _ _ _ refl (λ is.
+      rows_on _ _ _ _ _ (ap (λ (l : Last). is_repeat (check q.n1 l.version l.number h.given.version h.given.number)) t.same_last) (λ _.
+      rows_on _ _ _ _ _ (newer_same last now stamp v packets t (name_of p)) (λ _.
+      rows_on _ _ _ _ _ differs_is (λ same.
+      rows_on _ _ _ _ _ (held_is_had (not-false (possible h.cut) is) same) (λ _. refl))))))
 
 -- ---- what a join is
 
@@ -174,11 +176,11 @@ module _ (q : Setup) (log : List Exchange) (w : World) (a : Agrees q log w) (p :
   pub number_says : number ≡ first (rows_for q verdict with p)
   unfolding message_rows
   number_says =
-      first_later 9 (not (valid w.state)) _ (rw a.sound.is_valid)
-      ∙ first_later 11 (not (eqb (length w.storage) (w.state.count * area))) _ (rw (eq-eqb _ _ a.sound.room))
-      ∙ rows_on 12 _ _ _ _ (message_length_lem p) (λ _.
-      rows_on 13 _ _ _ _ (ap not (message_head p)) (λ _.
-      rows_on 14 _ _ _ _ (rw (at_place, a.count)) (λ registered.
+      first_later refusals.State (not (valid w.state)) _ (rw a.sound.is_valid)
+      ∙ first_later refusals.Storage (not (eqb (length w.storage) (w.state.count * area))) _ (rw (eq-eqb _ _ a.sound.room))
+      ∙ rows_on _ _ _ _ _ (message_length_lem p) (λ _.
+      rows_on _ _ _ _ _ (ap not (message_head p)) (λ _.
+      rows_on _ _ _ _ _ (rw (at_place, a.count)) (λ registered.
       rw at_place (rows_are (leb-false w.state.count i (rw at_place at registered))))))
 
   verdict_is : i < w.state.count → verdict_of w.state.n1 (sender_at w.state i) (head_of p) ≡ verdict
@@ -191,10 +193,10 @@ module _ (q : Setup) (log : List Exchange) (w : World) (a : Agrees q log w) (p :
   repeat_here : first (rows_for q verdict with p) ≡ 17 → (is_message p ≡ true) × (i < w.state.count)
   repeat_here e =
       let ahead = take 3 (rows_for q verdict with p) in
-      let none = behind_without 17 ahead (later_rows q verdict with p) (λ z. omega (arith, z)) (unfold numbered in refl) (unfold without in refl) e in
-      let r12 = first_none 12 (not (has_length 64 1460 p)) _ (λ z. omega arith) none in
-      let r13 = first_none 13 (not (is_message p)) _ (λ z. omega arith) r12.1 in
-      let r14 = first_none 14 (leb (length (senders_of q)) i) _ (λ z. omega arith) r13.1 in
+      let none = behind_without 17 ahead (later_rows q verdict with p) (λ z. omega (arith, z)) (unfold without in refl) e in
+      let r12 = first_none _ (not (has_length 64 1460 p)) _ none in
+      let r13 = first_none _ (not (is_message p)) _ r12.1 in
+      let r14 = first_none _ (leb (length (senders_of q)) i) _ r13.1 in
       (not-false (is_message p) r13.0, omega (arith, leb-false (length (senders_of q)) i r14.0, a.count))
 
   -- so its number and the last one are 1 to M.
@@ -213,11 +215,16 @@ module _ (q : Setup) (log : List Exchange) (w : World) (a : Agrees q log w) (p :
 
   refused_says : number ≢ 0 → (message_told (answer_to w p), part_to w p) ≡ message_says q log p
   unfolding message_answer refused message_says
-  refused_says ne = rw (← number_says, ne_eqb number 0 ne, same_age)
+  refused_says ne =
+      let given = refusal_given (message_rows w.state (length w.storage) p) ne in
+      rw (← number_says, ne_eqb number 0 ne, ← same_age, given.1.0, given.1.1)
 
   -- ---- what is told to an accepted one
 
   module _ (none : number ≡ 0) where
+    abbrev rows : List Row
+    rows = message_rows w.state (length w.storage) p
+
     abbrev here : i < w.state.count
     here = subst (λ (x : ℕ). x < w.state.count) at_place (taken_facts w.state (length w.storage) p none).0.registered
 
@@ -289,14 +296,14 @@ module _ (q : Setup) (log : List Exchange) (w : World) (a : Agrees q log w) (p :
         (joined_part g src i w registered with t.inv p mine (verdict_of w.state.n1 sender (head_of p)) gave)
       where
         gave : (answer_to w p).outcome ≡ Delivered (verdict_of w.state.n1 sender (head_of p))
-        gave = unfold message_answer taken admitted in rw (none, at_place, f)
+        gave = unfold message_answer taken admitted in rw (checked_none rows none, at_place, f)
 
     part_is : fills sender (head_of p) ≡ true → part_to w p ≡ joined (head_of p).cut.tbn (octets_of (accepted_with with p))
     part_is f = one_join (accepted_with with p) p (part_to w p) (join_is f)
 
     not_filled : fills sender (head_of p) ≡ false → (message_told (answer_to w p)).outcome.number ≡ 0
     unfolding message_answer taken admitted
-    not_filled f = rw (none, at_place, f)
+    not_filled f = rw (checked_none rows none, at_place, f)
 
     lies_is : where_told (lies_at i (head_of p)) ≡ lies_in i p
     lies_is = ⊎_elim (λ (e : eqb (head_of p).cut.tbn 1 ≡ true). rw e) (λ (e : eqb (head_of p).cut.tbn 1 ≡ false). rw e) (true_or_false (eqb (head_of p).cut.tbn 1))
@@ -305,10 +312,10 @@ module _ (q : Setup) (log : List Exchange) (w : World) (a : Agrees q log w) (p :
     accepted_says = ⊎_elim delivered_says stored_says (true_or_false (fills sender (head_of p)))
       where
         delivered_says : fills sender (head_of p) ≡ true → (message_told (answer_to w p), part_to w p) ≡ message_says q log p
-        delivered_says f = rw (part_is f) (unfold message_answer taken admitted held_after message_says in rw (← number_says, none, at_place, ← fills_is, f, verdict_is here, dropped_is, lies_is))
+        delivered_says f = rw (part_is f) (unfold message_answer taken admitted held_after message_says in rw (← number_says, none, checked_none rows none, at_place, ← fills_is, f, verdict_is here, dropped_is, lies_is))
 
         stored_says : fills sender (head_of p) ≡ false → (message_told (answer_to w p), part_to w p) ≡ message_says q log p
-        stored_says f = unfold message_answer taken admitted held_after message_says in rw (← number_says, none, at_place, ← fills_is, f, held_is_length, dropped_is)
+        stored_says f = unfold message_answer taken admitted held_after message_says in rw (← number_says, none, checked_none rows none, at_place, ← fills_is, f, held_is_length, dropped_is)
 
   pub message_says_lem : (message_told (answer_to w p), part_to w p) ≡ message_says q log p
   message_says_lem = ⊎_elim accepted_says refused_says (eq_or_ne number 0)

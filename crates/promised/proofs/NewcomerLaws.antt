@@ -1,5 +1,6 @@
 -- What a packet is told where a message of its sender is open is what 02 says. Assumes nothing.
 use Rattle.std.specs.Prelude.{ℕ, ◌≤◌, ◌<◌, ◌≡◌, refl, ◌≢◌, ◌⊎◌, Bool, true, false, cond, List, [], ◌∷◌, eqb, length, take, drop}
+use Rattle.refusal.specs.declared.Refusal.TheVariants as refusals
 use Rattle.std.proofs.Common.{sym, ap, subst, ◌∙◌, inl, inr, ⊎_elim, arith, eq-eqb, ne_eqb}
 use Rattle.octets.specs.Split.{cond_case, eq_or_ne}
 use Rattle.ring.specs.declared.Number.{Number}
@@ -13,14 +14,14 @@ use Rattle.state.specs.Table.{source}
 use Rattle.answers.specs.declared.Setup.{Setup}
 use Rattle.answers.specs.Told.{age_with, MessageTold, message_refused}
 use Rattle.rules.specs.calls.First.{Row, row, first}
-use Rattle.rules.proofs.calls.FirstLaws.{numbered, first_here, first_later, first_append}
+use Rattle.rules.proofs.calls.FirstLaws.{first_here, first_later, first_append}
 use Rattle.promised.specs.Join.{kin_of}
 use Rattle.promised.specs.Log.{Exchange, Name, no_name, name_of, deliveries, last_of, same_message, accepted_with}
 use Rattle.promised.specs.Says.{senders_of, place_of, newer_is_open, rows_for, dropped_name, accepted, message_by, verdict_after, message_says}
 use Rattle.promised.specs.Newcomer.{Under, LiesOn, fresh_told, Replaces, Late, Newcomer}
 
 -- One of 12 to 17 is given, or none of them.
-lower_given : (a b c d e f : Bool) → let k = first (row 12 a ∷ row 13 b ∷ row 14 c ∷ row 15 d ∷ row 16 e ∷ row 17 f ∷ []) in
+lower_given : (a b c d e f : Bool) → let k = first (row refusals.Length a ∷ row refusals.Header b ∷ row refusals.Sender c ∷ row refusals.Test d ∷ row refusals.Cut e ∷ row refusals.Repeat f ∷ []) in
     (k ≡ 0) ⊎ ((12 ≤ k) × (k ≤ 17))
 unfolding first
 lower_given true b c d e f = inr (omega arith, omega arith)
@@ -31,7 +32,7 @@ lower_given false false false false true f = inr (omega arith, omega arith)
 lower_given false false false false false true = inr (omega arith, omega arith)
 lower_given false false false false false false = inl refl
 
-not_18 : (g h : Bool) → first (row 19 g ∷ row 20 h ∷ []) ≢ 18
+not_18 : (g h : Bool) → first (row refusals.Differs g ∷ row refusals.Held h ∷ []) ≢ 18
 unfolding first
 not_18 true h e = omega (arith, e)
 not_18 false true e = omega (arith, e)
@@ -72,7 +73,7 @@ module _ (q : Setup) (i : ℕ) (verdict : Verdict) (last : List ℕ) (others : L
   fresh = told []
 
   told_is : (ps : List (List ℕ)) (k : ℕ) → cond (eqb given 0) (first (own_rows ps)) given ≡ k → told ps ≡ told_by k ps
-  told_is ps k e = ap (λ (n : ℕ). told_by n ps) (first_append lower_rows (own_rows ps) (unfold numbered in refl) ∙ e)
+  told_is ps k e = ap (λ (n : ℕ). told_by n ps) (first_append lower_rows (own_rows ps) ∙ e)
 
   refused_is : (ps : List (List ℕ)) (k : ℕ) → k ≢ 0 → told_by k ps ≡ message_refused k (age_with k verdict)
   refused_is ps k some = ap (λ (b : Bool). (cond b (taken ps) (message_refused k (age_with k verdict), [])).0) (ne_eqb k 0 some)
@@ -145,7 +146,7 @@ module _ (q : Setup) (i : ℕ) (verdict : Verdict) (last : List ℕ) (others : L
     older_late far = ⊎_elim
         (λ (none : given ≡ 0). record {
           eighteen = λ _. told_own packets none
-              ∙ rw (first_here 18 (newer_is_open packets (name_of packet)) _ (late_is ∙ (newer_as_printed.older_when seq open_seq d on.1 far).1));
+              ∙ rw (first_here refusals.Older (newer_is_open packets (name_of packet)) _ (late_is ∙ (newer_as_printed.older_when seq open_seq d on.1 far).1));
           lower = λ some. absurd (omega (arith, some, taken_number [], number (fresh_taken none)));
         })
         (λ (w : (12 ≤ given) × (given ≤ 17)). record {
@@ -167,7 +168,7 @@ module _ (q : Setup) (i : ℕ) (verdict : Verdict) (last : List ℕ) (others : L
       own = first (own_rows packets)
 
       not_given : own ≢ 18
-      not_given = rw (first_later 18 (newer_is_open packets (name_of packet)) _ (late_is 0 on ∙ (newer_as_printed.neither_when seq open_seq on.1).1)) (not_18 _ _)
+      not_given = rw (first_later refusals.Older (newer_is_open packets (name_of packet)) _ (late_is 0 on ∙ (newer_as_printed.neither_when seq open_seq on.1).1)) (not_18 _ _)
 
   newcomer : Newcomer (name_of packet) (name_of last) fresh (told packets)
   newcomer = record { newer = newer_replaces; older = older_late; same = not_late; another = another }

@@ -1,6 +1,8 @@
 -- The way of a message through its sender's record: while pieces are missing, and once it was delivered. Assumes
 -- nothing.
 use Rattle.std.specs.Prelude.{ℕ, ◌+◌, ◌-◌, ◌^◌, ◌≤◌, ◌<◌, ◌≡◌, refl, ◌≢◌, ◌⊎◌, true, false, not, cond, ◌&&◌, List, eqb}
+use Rattle.rules.proofs.calls.FirstLaws.{checked_none, checked_given}
+use Rattle.refusal.specs.declared.Refusal.TheVariants as refusals
 use Rattle.std.proofs.Common.{sym, ap, subst, ◌∙◌, arith, pow_pos}
 use Rattle.std.proofs.Math.Logic.{inl, inr, ⊎_elim}
 use Rattle.std.proofs.Math.Bool.{and-true, and-false}
@@ -178,16 +180,16 @@ module _ (g : Settings) (m : Sent) (k : Cuttable m) (admits : eqb m.mode 1 && no
     outcome_last : holds (map_of m s) c ≡ false → ((d : ℕ) → Numbered m d → With d) → outcome_view g v p ≡ Delivered (verdict_by g.n1 m last)
     unfolding admission admitted
     outcome_last clear all =
-        rw (outcome_view, number_clear clear, fills_by clear, eq-eqb (grown clear) (full_map (count m)) (all_full clear all), verdict_is g.test g.n1 m k admits s c p is, f.same_last)
+        rw (outcome_view, checked_none _ (number_clear clear), fills_by clear, eq-eqb (grown clear) (full_map (count m)) (all_full clear all), verdict_is g.test g.n1 m k admits s c p is, f.same_last)
 
     outcome_more : holds (map_of m s) c ≡ false → (((d : ℕ) → Numbered m d → With d) → ⊥) → outcome_view g v p ≡ Stored
     unfolding admission admitted
     outcome_more clear not_all =
-        rw (outcome_view, number_clear clear, fills_by clear, ne_eqb (grown clear) (full_map (count m)) (λ e. not_all (full_all clear e)))
+        rw (outcome_view, checked_none _ (number_clear clear), fills_by clear, ne_eqb (grown clear) (full_map (count m)) (λ e. not_all (full_all clear e)))
 
-    outcome_held : C c → outcome_view g v p ≡ Refused 20 0
+    outcome_held : C c → outcome_view g v p ≡ Refused refusals.Held 0
     unfolding admission not_admitted
-    outcome_held e = rw (outcome_view, number_held e)
+    outcome_held e = rw (outcome_view, checked_given _ refusals.Held (number_held e))
 
     not_held : (C c → ⊥) → holds (map_of m s) c ≡ false
     not_held none = ⊎_elim
@@ -232,14 +234,14 @@ module _ (g : Settings) (m : Sent) (k : Cuttable m) (admits : eqb m.mode 1 && no
   phase_more (inl f) none d numbered ne missing = outcome_more f (not_held f none) (λ all. ⊎_elim missing ne (all d numbered))
   phase_more (inr f) none d numbered ne missing = absurd (none (f.all c is.numbered))
 
-  pub phase_held : Phase m last C s → C c → (d : ℕ) → Numbered m d → (C d → ⊥) → outcome_view g v p ≡ Refused 20 0
+  pub phase_held : Phase m last C s → C c → (d : ℕ) → Numbered m d → (C d → ⊥) → outcome_view g v p ≡ Refused refusals.Held 0
   phase_held (inl f) here d numbered missing = outcome_held f here
   phase_held (inr f) here d numbered missing = absurd (missing (f.all d numbered))
 
-  pub phase_once : 1 ≤ g.n1 → m.version.0 ≢ 0 → Phase m last C s → ((d : ℕ) → Numbered m d → C d) → outcome_view g v p ≡ Refused 17 0
+  pub phase_once : 1 ≤ g.n1 → m.version.0 ≢ 0 → Phase m last C s → ((d : ℕ) → Numbered m d → C d) → outcome_view g v p ≡ Refused refusals.Repeat 0
   unfolding admission not_admitted
   phase_once one some (inl f) all = absurd (some_missing f all)
-  phase_once one some (inr f) all = rw (outcome_view, number_finished f one some, verdict_is g.test g.n1 m k admits s c p is, again f one some)
+  phase_once one some (inr f) all = rw (outcome_view, checked_given _ refusals.Repeat (number_finished f one some), verdict_is g.test g.n1 m k admits s c p is, again f one some)
 
 -- ---- a clock call that keeps the message
 

@@ -1,7 +1,7 @@
 -- What is delivered after a past is a join of packets accepted since their message opened. Assumes nothing.
-use Rattle.std.specs.Prelude.{ℕ, suc, ◌+◌, ◌*◌, ◌≤◌, ◌<◌, ◌≡◌, ◌≢◌, false, List, [], ◌∷◌, drop}
+use Rattle.std.specs.Prelude.{ℕ, suc, ◌+◌, ◌*◌, ◌≤◌, ◌<◌, ◌≡◌, ◌≢◌, false, List, [], ◌∷◌, drop, Err}
 use Rattle.std.proofs.Math.Path.{sym, ap, subst}
-use Rattle.std.proofs.Common.{◌∙◌, mul-le-mul_right, suc-mul, take_all, eqb-true, ne_eqb, le-leb}
+use Rattle.std.proofs.Common.{◌∙◌, mul-le-mul_right, suc-mul, take_all, eqb-true, le-leb}
 use Rattle.std.proofs.Math.Logic.{⊎_elim}
 use Rattle.std.proofs.Math.Bool.{true, cond}
 use native.Mathlib.Omega.{arith}
@@ -24,13 +24,16 @@ use Rattle.state.specs.State.{sender_at, Settings}
 use Rattle.state.specs.Table.{source, found}
 use Rattle.answers.specs.declared.Answer.{Answer}
 use Rattle.answers.specs.declared.Outcome.TheVariants.{Refused, Stored, Delivered}
+use Rattle.refusal.specs.declared.Refusal.{Refusal}
 use Rattle.answers.specs.Told.{refusal}
+use Rattle.rules.specs.calls.First.{Row, checked}
+use Rattle.rules.proofs.calls.FirstLaws.{checked_none, refusal_given}
 use Rattle.promised.specs.Judged.{has_length, is_message, in_order, is_from}
 use Rattle.rules.specs.calls.Admit.{rejoins, fills, admitted}
 use Rattle.rules.proofs.calls.AdmitLaws.{admitted_facts}
 use Rattle.promised.specs.Join.{Joined, behind}
 use Rattle.promised.proofs.JoinLaws.{Inv, part_view, delivered_joined}
-use Rattle.rules.specs.calls.Message.{area, message_number, verdict_at, message_answer, message_storage, storage_after, lies_at, taken, refused}
+use Rattle.rules.specs.calls.Message.{area, message_rows, message_number, verdict_at, message_answer, message_storage, storage_after, lies_at, taken, refused}
 use Rattle.rules.proofs.calls.MessageLaws.{Passed, taken_facts}
 use Rattle.rules.specs.calls.Part.{part_of, stored_part}
 use Rattle.rules.specs.pasts.Past.{World, answer_to, part_to, Start}
@@ -48,18 +51,23 @@ module _ (w : World) (sound : Sound w) (p : List ℕ) (vd : Verdict) (gave : (me
   abbrev answer : Answer
   answer = message_answer w.state (length w.storage) p
 
+  abbrev rows : List Row
+  rows = message_rows w.state (length w.storage) p
+
   -- What is delivered met no number, and its piece fills the map.
   none : message_number w.state (length w.storage) p ≡ 0
   none = ⊎_elim
       (λ z. z)
-      (λ (z : message_number w.state (length w.storage) p ≢ 0). absurd (not_refused _ _ (sym (refused_is z) ∙ gave)))
+      (λ (z : message_number w.state (length w.storage) p ≢ 0).
+      let given = refusal_given rows z in
+      absurd (not_refused _ _ (sym (refused_is given.0 given.1.0) ∙ gave)))
       (eq_or_ne (message_number w.state (length w.storage) p) 0)
     where
-      refused_is : message_number w.state (length w.storage) p ≢ 0 → answer.outcome ≡ refusal (message_number w.state (length w.storage) p) (verdict_at w.state h)
-      refused_is z = unfold message_answer refused in rw (ne_eqb (message_number w.state (length w.storage) p) 0 z)
+      refused_is : (r : Refusal) → checked rows ≡ Err r → answer.outcome ≡ refusal r (verdict_at w.state h)
+      refused_is r e = unfold message_answer refused in rw e
 
-      not_refused : (k age : ℕ) → Refused k age ≡ Delivered vd → ⊥
-      not_refused k age e = let z : ◌≡◌ {A = ℕ} 0 1 = cc in omega arith
+      not_refused : (r : Refusal) (age : ℕ) → Refused r age ≡ Delivered vd → ⊥
+      not_refused r age e = let z : ◌≡◌ {A = ℕ} 0 1 = cc in omega arith
 
   passed : Passed (valid w.state) w.state.count i (length w.storage) p h
   passed = (taken_facts w.state (length w.storage) p none).0
@@ -71,7 +79,7 @@ module _ (w : World) (sound : Sound w) (p : List ℕ) (vd : Verdict) (gave : (me
       (true_or_false (fills (sender_at w.state i) h))
     where
       stored_is : fills (sender_at w.state i) h ≡ false → answer.outcome ≡ Stored
-      stored_is z = unfold message_answer taken admitted in rw (none, z)
+      stored_is z = unfold message_answer taken admitted in rw (checked_none rows none, z)
 
       not_stored : Stored ≡ Delivered vd → ⊥
       not_stored e = let z : ◌≡◌ {A = ℕ} 0 1 = cc in omega arith
@@ -86,11 +94,11 @@ module _ (w : World) (sound : Sound w) (p : List ℕ) (vd : Verdict) (gave : (me
 
   lies_is : answer.lies ≡ lies_at i h
   unfolding message_answer taken admitted
-  lies_is = rw (none, full)
+  lies_is = rw (checked_none rows none, full)
 
   storage_is : message_storage w.state w.storage p ≡ storage_after w.storage i h p
   unfolding message_storage
-  storage_is = rw none
+  storage_is = rw (checked_none rows none)
 
   behind_all : drop header_size p ≡ behind p
   unfolding run

@@ -1,5 +1,5 @@
 -- Every call is told what `says` says, which looks at setup's arguments and the log alone. Assumes nothing.
-use Rattle.std.specs.Prelude.{ℕ, zero, suc, ◌+◌, ◌-◌, ◌≤◌, ◌<◌, ◌≡◌, ◌≢◌, Bool, true, not, ◌||◌, eqb, get_or}
+use Rattle.std.specs.Prelude.{ℕ, zero, suc, ◌+◌, ◌-◌, ◌≤◌, ◌<◌, ◌≡◌, ◌≢◌, Bool, true, not, ◌||◌, eqb, get_or, Some, Ok}
 use Rattle.std.proofs.Math.Path.{refl, ap}
 use Rattle.std.proofs.Common.{sym, subst, ◌∙◌, arith, eqb-true, eq-eqb, le-ltb, lt-ltb}
 use Rattle.std.proofs.Math.Logic.{⊎_elim}
@@ -24,7 +24,6 @@ use Rattle.state.specs.State.{no_sender, sender_at, first_where, Settings}
 use Rattle.state.specs.Table.{source, found}
 use Rattle.state.proofs.WithinLaws.{valid_sender}
 use Rattle.answers.specs.declared.Setup.{Setup}
-use Rattle.answers.specs.declared.Missing.TheVariants.{Piece}
 use Rattle.answers.specs.Told.{clock_told, call_number, question_told}
 use Rattle.rules.specs.calls.Alive.{alive_rows, alive_answer}
 use Rattle.rules.specs.calls.Clock.{drops, dies, map_where, ticked, not_ticked, clock_answer}
@@ -193,7 +192,7 @@ module _ (q : Setup) (log : List Exchange) (w : World) (a : Agrees q log w) wher
         absurd (never_both opened (all_held w.state.clock s (valid_sender w.state a.sound.is_valid i here) held)))
         (lt_or_le k (pieces_in (at i)))
 
-    pub piece_is : ((j : ℕ) → j < i → (sender_at w.state j).«open» ≡ false) → Piece i (k + 1) ≡ question_answer w.state
+    pub piece_is : ((j : ℕ) → j < i → (sender_at w.state j).«open» ≡ false) → Ok (Some (record { sender = i; piece = k + 1 })) ≡ question_answer w.state
     piece_is first_open = question_piece w.state a.sound.is_valid i k here first_open
         (rw (opened, pieces_are) some_missing)
         (λ j less. held_before j less (omega (arith, less, some_missing)))

@@ -34,7 +34,8 @@ use Rattle.rules.proofs.calls.ChangesLaws.{alive_only}
 use Rattle.rules.specs.calls.Alive.{alive_rows, heard_by, alive_answer}
 use Rattle.rules.specs.calls.Clock.{aged}
 use Rattle.rules.proofs.calls.ClockLaws.{clock_at}
-use Rattle.rules.specs.calls.First.{first}
+use Rattle.rules.specs.calls.First.{Row, first}
+use Rattle.rules.proofs.calls.FirstLaws.{checked_none, checked_given, refusal_given, check_case}
 use Rattle.rules.specs.calls.Message.{area, length_wrong, head_within, message_rows, message_number, storage_after, with_sender, taken, refused, message_answer, message_storage}
 use Rattle.rules.proofs.calls.MessageLaws.{Passed, taken_facts}
 use Rattle.rules.specs.pasts.Past.{World, Event, message, alive, clock, aside, step}
@@ -70,7 +71,9 @@ module _ (w : Receiver) (room : ℕ) (packet : List ℕ) (ok : valid w ≡ true)
 -- A packet that meets a number leaves the world as it was.
 pub message_still : (w : World) (packet : List ℕ) → message_number w.state (length w.storage) packet ≢ 0 → step w (message packet) ≡ w
 unfolding step message_answer message_storage refused
-message_still w packet e = rw (ne_eqb (message_number w.state (length w.storage) packet) 0 e)
+message_still w packet e =
+    let given = refusal_given (message_rows w.state (length w.storage) packet) e in
+    rw given.1.0
 
 -- ---- whose packet it is
 
@@ -110,18 +113,18 @@ module _ {A : Type 0} (f : Sender → A) (w : World) (sound : Sound w) (i : ℕ)
       → f (sender_at (message_answer w.state (length w.storage) packet).state i) ≡ f (sender_at w.state i)
   unfolding message_answer taken refused
   message_kept same packet =
-      cond_case (λ (x : Answer). f (sender_at x.state i) ≡ f (sender_at w.state i)) (eqb (message_number w.state (length w.storage) packet) 0) _ _
+      check_case (λ (x : Answer). f (sender_at x.state i) ≡ f (sender_at w.state i)) (message_rows w.state (length w.storage) packet) _ _
       (λ _. set_kept (found w.state (head_of packet)) _ (λ e. rw (← e) (same w.state.n1 w.state.clock (sender_at w.state i) (head_of packet))))
-      (λ _. refl)
+      (λ r _. refl)
 
   -- and what a signal does.
   alive_kept : ((now : ℕ) (s : Sender) (b : Body) → f (heard_by now s b) ≡ f s) → (packet : List ℕ)
       → f (sender_at (alive_answer w.state packet).state i) ≡ f (sender_at w.state i)
   unfolding alive_answer
   alive_kept same packet =
-      cond_case (λ (x : Noted). f (sender_at x.state i) ≡ f (sender_at w.state i)) (eqb (first (alive_rows w.state packet)) 0) _ _
+      check_case (λ (x : Noted). f (sender_at x.state i) ≡ f (sender_at w.state i)) (alive_rows w.state packet) _ _
       (λ _. set_kept (found w.state (head_of packet)) _ (λ e. rw (← e) (same w.state.clock (sender_at w.state i) (body_of packet))))
-      (λ _. refl)
+      (λ r _. refl)
 
 -- ---- what a packet of the sender's own does
 
@@ -206,7 +209,7 @@ module _ (w : World) (sound : Sound w) (i : ℕ) (here : i < w.state.count) wher
         let f = taken_facts w.state (length w.storage) packet none in
         let long : i < length w.state.senders = omega (arith, valid_length w.state sound.is_valid) in
         rw (
-          none,
+          checked_none (message_rows w.state (length w.storage) packet) none,
           at_place,
           get_or-set_same w.state.senders i (admitted w.state.n1 w.state.clock s (head_of packet)).sender no_sender long,
           joining_after w.state.n1 w.state.clock s (head_of packet),
@@ -223,9 +226,15 @@ module _ (w : World) (sound : Sound w) (i : ℕ) (here : i < w.state.count) wher
     pub outcome_is : (message_answer w.state (length w.storage) packet).outcome ≡ outcome_view g v packet
     unfolding view message_answer taken refused admission not_admitted
     outcome_is = ⊎_elim
-        (λ (e : number_of g v packet ≡ 0). rw (outcome_view, number_is, eq-eqb (number_of g v packet) 0 e, at_place, outcome_joining w.state.n1 w.state.clock s (head_of packet)))
-        (λ (e : number_of g v packet ≢ 0). rw (outcome_view, number_is, ne_eqb (number_of g v packet) 0 e, at_place))
+        (λ (e : number_of g v packet ≡ 0).
+        rw (outcome_view, checked_none (message_rows w.state (length w.storage) packet) (number_is ∙ e), checked_none own_rows e, at_place, outcome_joining w.state.n1 w.state.clock s (head_of packet)))
+        (λ (e : number_of g v packet ≢ 0).
+        let given = refusal_given own_rows e in
+        rw (outcome_view, checked_given (message_rows w.state (length w.storage) packet) given.0 (number_is ∙ given.1.1), given.1.0, at_place))
         (eq_or_ne (number_of g v packet) 0)
+      where
+        own_rows : List Row
+        own_rows = sender_rows g.test g.n1 v.sender (head_of packet)
 
   -- ---- another's packet
 
@@ -257,7 +266,7 @@ module _ (w : World) (sound : Sound w) (i : ℕ) (here : i < w.state.count) wher
     taken_elsewhere : view (step w (message packet)) i ≡ v
     unfolding view step message_answer message_storage taken with_sender
     taken_elsewhere =
-        rw (none, get_or-set_other w.state.senders k i (admitted w.state.n1 w.state.clock (sender_at w.state k) (head_of packet)).sender no_sender (λ z. elsewhere (sym z)), other_octets)
+        rw (checked_none (message_rows w.state (length w.storage) packet) none, get_or-set_other w.state.senders k i (admitted w.state.n1 w.state.clock (sender_at w.state k) (head_of packet)).sender no_sender (λ z. elsewhere (sym z)), other_octets)
 
   pub view_other : (packet : List ℕ) → is_from (address_at w.state.senders i) packet ≡ false → view (step w (message packet)) i ≡ v
   view_other packet e = ⊎_elim

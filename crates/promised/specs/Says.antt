@@ -1,6 +1,7 @@
 -- What a receiver says, by the past alone: what each call is told, from setup's arguments and the log of the calls
 -- before it. No state stands here. A call after a setup meets neither 9 nor 11.
 use Rattle.std.specs.Prelude.{ℕ, zero, suc, ◌+◌, ◌-◌, ◌*◌, ◌^◌, Bool, true, false, not, cond, ◌&&◌, ◌||◌, List, [], ◌∷◌, eqb, leb, ltb, length, take, drop}
+use Rattle.refusal.specs.declared.Refusal.TheVariants as refusals
 use Rattle.octets.specs.FirstPlace.{first_place}
 use Rattle.ring.specs.declared.Verdict.{Verdict}
 use Rattle.ring.specs.Check.{check, is_repeat, is_unchecked}
@@ -61,28 +62,28 @@ octets_of (p ∷ packets) c = cond (eqb (number_in p) c) (behind p) (octets_of p
 abbrev pub later_rows : Setup → Verdict → List (List ℕ) → List ℕ → List Row
 later_rows q verdict packets packet =
     -- "test message at an online node": "0 online, 1 test"
-    row 15 (eqb (head_of packet).given.mode 1 && eqb q.mode 0)
+    row refusals.Test (eqb (head_of packet).given.mode 1 && eqb q.mode 0)
     -- "cut not possible"
-    ∷ row 16 (not (possible (head_of packet).cut))
+    ∷ row refusals.Cut (not (possible (head_of packet).cut))
     -- "number check says repeat"
-    ∷ row 17 (is_repeat verdict)
+    ∷ row refusals.Repeat (is_repeat verdict)
     -- "open message has the same version and a" newer "number"
-    ∷ row 18 (newer_is_open packets (name_of packet))
+    ∷ row refusals.Older (newer_is_open packets (name_of packet))
     -- "same version and number, but TCD, n, TBN or u differ"
-    ∷ row 19 (same_message packets (name_of packet) && differs packets packet)
+    ∷ row refusals.Differs (same_message packets (name_of packet) && differs packets packet)
     -- "piece already held (octets not compared)"
-    ∷ row 20 (same_message packets (name_of packet) && has_piece packets (number_in packet))
+    ∷ row refusals.Held (same_message packets (name_of packet) && has_piece packets (number_in packet))
     ∷ []
 
 -- 12 to 14, and those behind them.
 abbrev pub rows_for : Setup → Verdict → List (List ℕ) → List ℕ → List Row
 rows_for q verdict packets packet =
     -- "PDU too short (64 …), too long (1,460 …), or length unlike BSIZE"
-    row 12 (not (has_length 64 1460 packet))
+    row refusals.Length (not (has_length 64 1460 packet))
     -- "a fixed field of 5.1, PRI, MODE, code, or SEQ (0 or above M …) out of range"
-    ∷ row 13 (not (is_message packet))
+    ∷ row refusals.Header (not (is_message packet))
     -- "sender not registered"
-    ∷ row 14 (leb (length (senders_of q)) (place_of (senders_of q) (source (head_of packet))))
+    ∷ row refusals.Sender (leb (length (senders_of q)) (place_of (senders_of q) (source (head_of packet))))
     ∷ later_rows q verdict packets packet
 
 -- "the open message is dropped, its version and number stand in the answer (both 0 if none …)"
@@ -147,17 +148,17 @@ has_tables q t = tables_within (length (senders_of q) * (groups_of q).count * 8)
 -- 26, 12 to 14, 25 and 15 to 17, where `right` says whether 26 passes the tables and `verdict` what the number check says.
 abbrev pub rows_cast : Setup → Bool → Verdict → ℕ → List ℕ → List Row
 rows_cast q right verdict g packet =
-    row 26 (not right)
+    row refusals.Tables (not right)
     -- "a PDU may be 1,472 octets here"
-    ∷ row 12 (not (has_length 64 1472 packet))
-    ∷ row 13 (not (is_message packet))
-    ∷ row 14 (leb (length (senders_of q)) (place_of (senders_of q) (source (head_of packet))))
+    ∷ row refusals.Length (not (has_length 64 1472 packet))
+    ∷ row refusals.Header (not (is_message packet))
+    ∷ row refusals.Sender (leb (length (senders_of q)) (place_of (senders_of q) (source (head_of packet))))
     -- "25 group not registered, after 14"
-    ∷ row 25 (leb (groups_of q).count (groups.place_of (groups_of q) g))
-    ∷ row 15 (eqb (head_of packet).given.mode 1 && eqb q.mode 0)
+    ∷ row refusals.Group (leb (groups_of q).count (groups.place_of (groups_of q) g))
+    ∷ row refusals.Test (eqb (head_of packet).given.mode 1 && eqb q.mode 0)
     -- "16 unless CBN = TBN = 1 and p = n"
-    ∷ row 16 (not (one_piece (head_of packet).cut))
-    ∷ row 17 (is_repeat verdict)
+    ∷ row refusals.Cut (not (one_piece (head_of packet).cut))
+    ∷ row refusals.Repeat (is_repeat verdict)
     ∷ []
 
 -- The entry of the packet's sender, group and priority, and what stands there.
@@ -187,14 +188,14 @@ cast_says q t g packet = cast_by q (has_tables q t) (verdict_after q (name_at t 
 unfoldable pub alive_says : Setup → List ℕ → ℕ
 alive_says q packet = first (
     -- "too short (… alive 128), too long (… alive 1,472)"
-    row 12 (not (has_length 128 1472 packet))
+    row refusals.Length (not (has_length 128 1472 packet))
     -- "Code in 13 means … in an alive signal not 60,003."
-    ∷ row 13 (not (is_alive packet))
-    ∷ row 14 (leb (length (senders_of q)) (place_of (senders_of q) (source (head_of packet))))
+    ∷ row refusals.Header (not (is_alive packet))
+    ∷ row refusals.Sender (leb (length (senders_of q)) (place_of (senders_of q) (source (head_of packet))))
     -- "alive ML, CBN, TBN, group or body wrong"
-    ∷ row 22 (not (has_body packet))
+    ∷ row refusals.Alive (not (has_body packet))
     -- 02, Item 2: "24 for a fault section that breaks these rules, after 22"
-    ∷ row 24 (not (has_section packet))
+    ∷ row refusals.Fault (not (has_section packet))
     ∷ [])
 
 -- ---- the clock call

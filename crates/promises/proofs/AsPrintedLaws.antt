@@ -1,27 +1,26 @@
 -- The cutter writes, as 01 prints it. Assumes nothing.
-use Rattle.std.specs.Prelude.{ℕ, ◌+◌, ◌≤◌, ◌≡◌, refl, Bool, true, false, cond, List, ◌++◌, drop}
+use Rattle.std.specs.Prelude.{ℕ, ◌+◌, ◌≤◌, ◌≡◌, refl, Bool, true, false, cond, List, ◌++◌, Result, Ok, Err, drop}
 use Rattle.std.proofs.Math.Path.{sym, ap}
 use Rattle.std.proofs.Common.{◌∙◌}
 use native.Mathlib.Omega.{arith}
 use Rattle.std.proofs.Math.ListN.{length}
 use Rattle.octets.specs.Run.{run, laid}
 use Rattle.octets.proofs.RunLaws.{laid_fits, laid_drop, length_laid}
+use Rattle.refusal.specs.declared.Refusal.{Refusal}
+use Rattle.refusal.specs.declared.Refusal.TheVariants.{Writing}
 use Rattle.header.specs.declared.Given.{Given}
 use Rattle.header.specs.declared.Head.{Head}
 use Rattle.header.specs.Head.{head_of, is_fixed}
-use Rattle.header.specs.Places.Field.{ml, cbn, tbn, bsize}
-use Rattle.cut.specs.declared.cutter.Cutting.{Cutting}
-use Rattle.cut.specs.declared.cutter.Cutting.TheVariants.{Written, Refused}
 use Rattle.cut.specs.Cutter.{Words, head_for, pdu, cuts, cutter_answer, cutter_told}
 use Rattle.cut.proofs.CutterLaws.{Within, length_pdu, cut_possible, cutter_written}
 use Rattle.cut.specs.Pieces.{pieces, piece_length, piece}
-use Rattle.cut.specs.Possible.{unit, possible}
+use Rattle.cut.specs.Possible.{possible}
 use Rattle.cut.proofs.ReadLaws.{cuts_within, cuts_room, pdu_head, pdu_fixed, pdu_piece}
 use Rattle.promises.specs.Course.{CutterMeets}
 use Rattle.cut.proofs.PrintedLaws.{carries_is, limits_cut, given_limits, cuts_tests}
 use Rattle.promises.specs.AsPrinted.{Writes, CuttingAsPrinted}
 
-module _ (g : Given) (m : List ℕ) (u c : ℕ) (buffer : List ℕ) (r : Cutting) (left : List ℕ) (meets : CutterMeets g m u c buffer r left) where
+module _ (g : Given) (m : List ℕ) (u c : ℕ) (buffer : List ℕ) (r : Result ℕ Refusal) (left : List ℕ) (meets : CutterMeets g m u c buffer r left) where
   abbrev n : ℕ
   n = length m
 
@@ -71,7 +70,7 @@ module _ (g : Given) (m : List ℕ) (u c : ℕ) (buffer : List ℕ) (r : Cutting
       room = ap length is_laid ∙ length_laid buffer 0 whole;
     }
 
-number_0 : (b : Bool) (k : ℕ) → (cutter_told (cond {A = Cutting} b (Written k) Refused)).number ≡ 0 → b ≡ true
+number_0 : (b : Bool) (k : ℕ) → (cutter_told (cond {A = Result ℕ Refusal} b (Ok k) (Err Writing))).number ≡ 0 → b ≡ true
 number_0 true k e = refl
 number_0 false k e = absurd (omega (arith, e))
 
@@ -82,7 +81,7 @@ cutting_as_printed = record {
       let own = carries_is (length m) u c p (omega (arith, l.unit.0)) l.piece.0 l.piece.1 k in
       did_write g m u c buffer r left meets (limits_cut g m u c (length buffer) l (omega arith)) words p own;
   only = λ g m u c buffer r left meets e.
-      let yes = number_0 (cuts g m u c (length buffer)) (64 + piece_length (length m) u c) (sym (ap (λ (x : Cutting). (cutter_told x).number) meets.answered) ∙ e) in
+      let yes = number_0 (cuts g m u c (length buffer)) (64 + piece_length (length m) u c) (sym (ap (λ (x : Result ℕ Refusal). (cutter_told x).number) meets.answered) ∙ e) in
       let w = cuts_within g m u c (length buffer) yes in (
         given_limits g (length m) u c (cuts_tests g m u c (length buffer) yes) w,
         λ p k. omega (arith, carries_is (length m) u c p (omega (arith, w.low)) w.first w.last k, cuts_room g m u c (length buffer) yes),

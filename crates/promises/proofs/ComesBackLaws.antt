@@ -1,5 +1,5 @@
 -- "Cut by our sender and joined by our receiver, a message of 0 to 16,384 octets comes back the same." Assumes nothing.
-use Rattle.std.specs.Prelude.{ℕ, ◌+◌, ◌≤◌, ◌≡◌, refl, true}
+use Rattle.std.specs.Prelude.{ℕ, ◌+◌, ◌≤◌, ◌≡◌, refl, true, Result}
 use Rattle.std.proofs.Common.{sym, subst, ◌∙◌, ⊎_elim, inl, inr, arith}
 use Rattle.std.proofs.Math.Path.{ap}
 use mathlib.Core.List.Memᴰ
@@ -8,7 +8,7 @@ use Rattle.std.proofs.Math.ListN.{length}
 use Rattle.octets.specs.Run.{run, laid}
 use Rattle.octets.proofs.RunLaws.{run_laid}
 use Rattle.header.specs.declared.Given.{Given}
-use Rattle.cut.specs.declared.cutter.Cutting.{Cutting}
+use Rattle.refusal.specs.declared.Refusal.{Refusal}
 use Rattle.cut.specs.Cutter.{Words, cuts, cutter_buffer, cutter_answer, pdu, cutter_told}
 use Rattle.cut.proofs.CutterLaws.{Within, length_pdu, within_short}
 use Rattle.cut.proofs.ReadLaws.{cuts_within, cuts_room}
@@ -39,7 +39,7 @@ module _ (g : Given) (octets : List ℕ) (u c : ℕ) (packet : List ℕ) (cut : 
       let within = cuts_within g octets u c room it_cuts in
       let long = length_pdu g octets u c within in
       let fits : 0 + length (pdu g octets u c) ≤ room = omega (arith, long, cuts_room g octets u c room it_cuts) in
-      let told : (cutter_told cut.answer).length ≡ length (pdu g octets u c) = ap (λ (x : Cutting). (cutter_told x).length) cut.called.answered ∙ rw it_cuts (sym long) in
+      let told : (cutter_told cut.answer).length ≡ length (pdu g octets u c) = ap (λ (x : Result ℕ Refusal). (cutter_told x).length) cut.called.answered ∙ rw it_cuts (sym long) in
       let left_is : cut.left ≡ laid cut.buffer 0 (pdu g octets u c) = cut.called.written ∙ rw it_cuts in
       cut.begins ∙ rw (told, left_is) (run_laid cut.buffer 0 (pdu g octets u c) fits)
 

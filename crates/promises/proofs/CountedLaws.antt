@@ -1,17 +1,17 @@
 -- Calls through the tally are calls of a course, and the tally counts them by their numbers. Assumes nothing.
 use Rattle.std.specs.Prelude.{ℕ, ◌+◌, ◌≤◌, min, ◌≡◌, refl, ◌⊎◌, cond, List, [], ◌∷◌, leb}
-use Rattle.std.proofs.Common.{sym, ap, subst, ◌∙◌, inl, inr, arith, le-leb}
+use Rattle.std.proofs.Common.{ap, subst, ◌∙◌, inl, inr, arith, le-leb}
 use Rattle.std.proofs.lemmas.Bool.{lt-leb}
 use Rattle.answers.specs.declared.Answer.{Answer}
 use Rattle.answers.specs.declared.Outcome.{Outcome}
 use Rattle.answers.specs.declared.Outcome.TheVariants.{Refused, Stored, Delivered}
-use Rattle.answers.specs.Told.{least_refusal, RefusedAs, outcome_told, OutcomeTells}
-use Rattle.rules.proofs.calls.ExactlyLaws.{message_tells}
+use Rattle.answers.specs.Told.{least_refusal, RefusedAs, outcome_told}
+use Rattle.refusal.specs.Numbers.{number_of}
+use Rattle.refusal.proofs.NumbersLaws.{nine_or_more}
 use Rattle.rules.specs.pasts.Past.{World, step, after, said, answers}
 use Rattle.tally.specs.declared.Tally.{Tally}
 use Rattle.tally.specs.Tally.{counted}
 use Rattle.tally.proofs.TallyLaws.{save_a_count}
-use Rattle.promises.specs.Course.{TallyMeets}
 use Rattle.promises.proofs.CourseLaws.{a_call, same_world}
 use Rattle.promises.specs.Counted.{Made, direct, tallied, call_of, calls_of, TalliedCourse, TalliedIsCourse, OneCounted, answers_told, refusals_told, AllCounted}
 
@@ -39,19 +39,16 @@ a_tallied_course t w (tallied packet ∷ ms) =
 -- ---- one call
 
 -- A refusal has a refusal's number.
-tells : {t : Tally} {w : World} {packet : List ℕ} {r : Answer} {s : Tally} {v : World} → TallyMeets t w packet r s v → OutcomeTells r.outcome
-tells {w = w} {packet = packet} m = subst (λ (a : Answer). OutcomeTells a.outcome) (sym m.called.answered) (message_tells w.state w.storage packet)
+either_told : (o : Outcome) → ((outcome_told o).number ≤ 1) ⊎ (least_refusal ≤ (outcome_told o).number)
+either_told (Refused r age) = inr (nine_or_more r)
+either_told Stored = inl (omega arith)
+either_told (Delivered v) = inl (omega arith)
 
-either_told : (o : Outcome) → OutcomeTells o → ((outcome_told o).number ≤ 1) ⊎ (least_refusal ≤ (outcome_told o).number)
-either_told (Refused k age) more = inr more
-either_told Stored _ = inl (omega arith)
-either_told (Delivered v) _ = inl (omega arith)
-
-answer_counted : (t : Tally) (o : Outcome) → OutcomeTells o → (outcome_told o).number ≤ 1
+answer_counted : (t : Tally) (o : Outcome) → (outcome_told o).number ≤ 1
     → counted t o ≡ record { answers = min (t.answers + 1) 4294967295; refusals = t.refusals }
-answer_counted t (Refused k age) more few = absurd (omega (arith, more, few))
-answer_counted t Stored _ few = refl
-answer_counted t (Delivered v) _ few = refl
+answer_counted t (Refused r age) few = absurd (omega (arith, nine_or_more r, few))
+answer_counted t Stored few = refl
+answer_counted t (Delivered v) few = refl
 
 pub one_counted : OneCounted
 one_counted t w packet r s v m = record {
@@ -63,23 +60,23 @@ one_counted t w packet r s v m = record {
         same_world (m.called.handed_on ∙ ap (λ (a : Answer). a.state) same_answer ∙ c.same_state) (m.called.stored ∙ c.same_storage),
         m.tallied ∙ ap (λ (a : Answer). counted t a.outcome) same_answer ∙ c.one_refusal_lem,
       );
-  answer = λ few. m.tallied ∙ answer_counted t r.outcome (tells m) few;
-  either = either_told r.outcome (tells m);
+  answer = λ few. m.tallied ∙ answer_counted t r.outcome few;
+  either = either_told r.outcome;
 }
 
 -- ---- a whole course
 
-answers_by_one : (t : Tally) → t.answers ≤ 4294967295 → (o : Outcome) → OutcomeTells o
+answers_by_one : (t : Tally) → t.answers ≤ 4294967295 → (o : Outcome)
     → (counted t o).answers ≡ min (t.answers + cond (leb (outcome_told o).number 1) 1 0) 4294967295
-answers_by_one t h (Refused k age) more = rw (lt-leb k 1 (omega (arith, more))) (omega (arith, h))
-answers_by_one t h Stored _ = refl
-answers_by_one t h (Delivered v) _ = refl
+answers_by_one t h (Refused r age) = rw (lt-leb (number_of r) 1 (omega (arith, nine_or_more r))) (omega (arith, h))
+answers_by_one t h Stored = refl
+answers_by_one t h (Delivered v) = refl
 
-refusals_by_one : (t : Tally) → t.refusals ≤ 4294967295 → (o : Outcome) → OutcomeTells o
+refusals_by_one : (t : Tally) → t.refusals ≤ 4294967295 → (o : Outcome)
     → (counted t o).refusals ≡ min (t.refusals + cond (leb least_refusal (outcome_told o).number) 1 0) 4294967295
-refusals_by_one t h (Refused k age) more = rw (le-leb 9 k more) refl
-refusals_by_one t h Stored _ = omega (arith, h)
-refusals_by_one t h (Delivered v) _ = omega (arith, h)
+refusals_by_one t h (Refused r age) = rw (le-leb 9 (number_of r) (nine_or_more r)) refl
+refusals_by_one t h Stored = omega (arith, h)
+refusals_by_one t h (Delivered v) = omega (arith, h)
 
 -- Those of the first call and of the others.
 in_turn : (a k n x y : ℕ) → x ≡ min (a + k) 4294967295 → y ≡ min (x + n) 4294967295 → y ≡ min (a + (k + n)) 4294967295
@@ -94,8 +91,8 @@ all_counted t a r w (direct e ∷ ms) rs s v c =
 all_counted t a r w (tallied packet ∷ ms) rs s v c =
     let m = c.2.0 in
     let o = rs.0.0.outcome in
-    let one_answer = ap (λ (x : Tally). x.answers) m.tallied ∙ answers_by_one t a o (tells m) in
-    let one_refusal_lem = ap (λ (x : Tally). x.refusals) m.tallied ∙ refusals_by_one t r o (tells m) in
+    let one_answer = ap (λ (x : Tally). x.answers) m.tallied ∙ answers_by_one t a o in
+    let one_refusal_lem = ap (λ (x : Tally). x.refusals) m.tallied ∙ refusals_by_one t r o in
     let rest = all_counted c.0 (omega (arith, one_answer)) (omega (arith, one_refusal_lem)) c.1 ms rs.1 s v c.3 in (
       in_turn t.answers _ (answers_told ms rs.1) c.0.answers s.answers one_answer rest.0,
       in_turn t.refusals _ (refusals_told ms rs.1) c.0.refusals s.refusals one_refusal_lem rest.1,

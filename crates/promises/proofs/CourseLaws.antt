@@ -1,10 +1,10 @@
 -- The contracts fix one course: what every call answers and leaves is what `rules` says. So the theorems of `rules`
 -- about pasts are about every program whose calls meet the contracts. Assumes nothing.
-use Rattle.std.specs.Prelude.{ℕ, ◌≡◌, refl, List, [], ◌∷◌}
+use Rattle.std.specs.Prelude.{ℕ, ◌≡◌, refl, List, [], ◌∷◌, Result}
 use Rattle.std.proofs.Common.{sym, ap, subst, ◌∙◌}
 use Rattle.octets.specs.Answer.{one_answer}
 use Rattle.header.specs.declared.Given.{Given}
-use Rattle.cut.specs.declared.cutter.Cutting.{Cutting}
+use Rattle.refusal.specs.declared.Refusal.{Refusal}
 use Rattle.state.specs.declared.Receiver.{Receiver}
 use Rattle.answers.specs.declared.Answer.{Answer}
 use Rattle.answers.specs.declared.GroupAnswer.{GroupAnswer}
@@ -123,6 +123,6 @@ course_sound q r w m es rs v c = subst Sound (sym (one_course w es rs v c).1) (p
 
 -- ---- the cutter
 
-pub same_cutting : (g : Given) (m : List ℕ) (u c : ℕ) (buffer : List ℕ) (r t : Cutting) (left right : List ℕ)
+pub same_cutting : (g : Given) (m : List ℕ) (u c : ℕ) (buffer : List ℕ) (r t : Result ℕ Refusal) (left right : List ℕ)
     → CutterMeets g m u c buffer r left → CutterMeets g m u c buffer t right → (r ≡ t) × (left ≡ right)
 same_cutting g m u c buffer r t left right a b = (one_answer a.answered b.answered, one_answer a.written b.written)

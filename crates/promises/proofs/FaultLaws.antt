@@ -1,5 +1,5 @@
 -- What 02, Item 2 asks of the fault section, proved from the contracts of its calls. Assumes nothing.
-use Rattle.std.specs.Prelude.{ℕ, ◌+◌, ◌*◌, ◌≤◌, ◌≡◌, Bool, not, cond, List, [], ◌∷◌, ◌++◌, ltb}
+use Rattle.std.specs.Prelude.{ℕ, ◌*◌, ◌≤◌, ◌≡◌, Bool, not, cond, List, [], ◌∷◌, ◌++◌, Result, Ok, Err, ltb}
 use Rattle.std.proofs.Math.Path.{refl, ap}
 use Rattle.std.proofs.Common.{sym, subst, ◌∙◌, ⊎_elim, zero-add, arith}
 use Rattle.std.proofs.Math.Bool.{true, false}
@@ -9,10 +9,10 @@ use Rattle.octets.specs.Answer.{one_answer}
 use Rattle.octets.specs.Run.{run, laid}
 use Rattle.octets.proofs.RunLaws.{laid_fits}
 use Rattle.octets.specs.Split.{true_or_false}
+use Rattle.refusal.specs.declared.Refusal.{Refusal}
+use Rattle.refusal.specs.Numbers.{number_in}
 use Rattle.fault.specs.declared.Error.{Error}
 use Rattle.fault.specs.declared.reading.Report.{Report}
-use Rattle.fault.specs.declared.writing.Writing.{Writing}
-use Rattle.fault.specs.declared.writing.Writing.TheVariants.{Written, Short, Broken}
 use Rattle.fault.specs.Places.{modules_in}
 use Rattle.fault.specs.Reading.{is_section, report_of, reading_of, report, refused as unread, no_error, error_at}
 use Rattle.fault.proofs.ReadingLaws.{is_section_lem, section_is, report_back, options_back, dead_back, error_back}
@@ -21,6 +21,7 @@ use Rattle.fault.specs.Section.{Section, bits_size, bits_of, numbers_of, octets_
 use Rattle.fault.proofs.SectionLaws.{Within, within_facts, within_is, section_size, bits_there, says_modules}
 use Rattle.fault.specs.Writing.{section_given, size_given, keeps_rules, writing_of, buffer_of, writing_told}
 use Rattle.fault.proofs.WritingLaws.{keeps_facts, given_modules, given_bits, given_numbers}
+use Rattle.refusal.specs.declared.Refusal.TheVariants as refusals
 use Rattle.answers.specs.Told.{RefusedAs}
 use Rattle.rules.specs.calls.First.{Row, row, first}
 use Rattle.rules.proofs.calls.FirstLaws.{first_given, given_first, given_above, above}
@@ -40,31 +41,31 @@ refuses_first table number left high is nothing = record {
 
 pub read_refuses : ReadRefuses
 unfolding reading_of report_of
-read_refuses s r m = refuses_first (row 24 (not (is_section s)) ∷ []) r.number (λ k. r ≡ unread) (unfold above in refl) number nothing
+read_refuses s r m = refuses_first (row refusals.Fault (not (is_section s)) ∷ []) (number_in r) (λ k. r ≡ unread) (unfold above in refl) number nothing
   where
-    number : r.number ≡ first (row 24 (not (is_section s)) ∷ [])
-    number = ap (λ (x : Report). x.number) m.answered ∙ by (is_section s)
+    number : number_in r ≡ first (row refusals.Fault (not (is_section s)) ∷ [])
+    number = ap (number_in {A = Report}) m.answered ∙ by (is_section s)
       where
-        by : (b : Bool) → (cond b (report_of s) unread).number ≡ first (row 24 (not b) ∷ [])
+        by : (b : Bool) → number_in (cond b (Ok (report_of s)) unread) ≡ first (row refusals.Fault (not b) ∷ [])
         by true = unfold first in refl
         by false = unfold first in refl
 
-    nothing : (k : ℕ) → RefusedAs r.number k → r ≡ unread
-    nothing k a = m.answered ∙ by (is_section s) (sym (ap (λ (x : Report). x.number) m.answered) ∙ a.0)
+    nothing : (k : ℕ) → RefusedAs (number_in r) k → r ≡ unread
+    nothing k a = m.answered ∙ by (is_section s) (sym (ap (number_in {A = Report}) m.answered) ∙ a.0)
       where
-        by : (b : Bool) → (cond b (report_of s) unread).number ≡ k → cond b (report_of s) unread ≡ unread
+        by : (b : Bool) → number_in (cond b (Ok (report_of s)) unread) ≡ k → cond b (Ok (report_of s)) unread ≡ unread
         by true e = absurd (omega (arith, e, a.1))
         by false e = refl
 
 -- What is told of a writing, by whether it is short and whether it keeps the rules.
-answer_by : (short keeps : Bool) (size : ℕ) → Writing
-answer_by short keeps size = cond short Short (cond keeps (Written size) Broken)
+answer_by : (short keeps : Bool) (size : ℕ) → Result ℕ Refusal
+answer_by short keeps size = cond short (Err refusals.Writing) (cond keeps (Ok size) (Err refusals.Fault))
 
 buffer_by : (short keeps : Bool) (buffer after : List ℕ) → List ℕ
 buffer_by short keeps buffer after = cond short buffer (cond keeps after buffer)
 
 abbrev table : (short keeps : Bool) → List Row
-table short keeps = row 23 short ∷ row 24 (not keeps) ∷ []
+table short keeps = row refusals.Writing short ∷ row refusals.Fault (not keeps) ∷ []
 
 told_first : (short keeps : Bool) (size : ℕ) → (writing_told (answer_by short keeps size)).number ≡ first (table short keeps)
 unfolding answer_by first
@@ -79,7 +80,7 @@ told_refused true keeps size buffer after k a = (refl, refl)
 told_refused false true size buffer after k a = absurd (omega (arith, a.0, a.1))
 told_refused false false size buffer after k a = (refl, refl)
 
-module _ (p : Parts) (buffer : List ℕ) (r : Writing) (left : List ℕ) (m : WriteMeets p buffer r left) where
+module _ (p : Parts) (buffer : List ℕ) (r : Result ℕ Refusal) (left : List ℕ) (m : WriteMeets p buffer r left) where
   abbrev size : ℕ
   size = size_given p.modules p.numbers p.options
 
@@ -102,10 +103,10 @@ module _ (p : Parts) (buffer : List ℕ) (r : Writing) (left : List ℕ) (m : Wr
 
   pub refuses_both : Refuses (table short keeps) (writing_told r).number (λ k. ((writing_told r).length ≡ 0) × (left ≡ buffer))
   refuses_both = refuses_first (table short keeps) (writing_told r).number _ (unfold above in refl)
-      (ap (λ (x : Writing). (writing_told x).number) answer_is ∙ told_first short keeps size)
+      (ap (λ (x : Result ℕ Refusal). (writing_told x).number) answer_is ∙ told_first short keeps size)
       (λ k a.
-      let b = told_refused short keeps size buffer (laid buffer 0 (octets_of made)) k (sym (ap (λ (x : Writing). (writing_told x).number) answer_is) ∙ a.0, a.1) in
-      (ap (λ (x : Writing). (writing_told x).length) answer_is ∙ b.0, left_is ∙ b.1))
+      let b = told_refused short keeps size buffer (laid buffer 0 (octets_of made)) k (sym (ap (λ (x : Result ℕ Refusal). (writing_told x).number) answer_is) ∙ a.0, a.1) in
+      (ap (λ (x : Result ℕ Refusal). (writing_told x).length) answer_is ∙ b.0, left_is ∙ b.1))
 
   -- Where it is long enough and the rules are kept.
   pub written_as : short ≡ false → keeps ≡ true → length (octets_of made) ≡ size → WrittenAs (octets_of made) buffer r left
@@ -125,22 +126,22 @@ module _ (p : Parts) (buffer : List ℕ) (r : Writing) (left : List ℕ) (m : Wr
   not_refused false false k e = absurd (omega (arith, e))
 
   pub was_written : (writing_told r).number ≡ 0 → (short ≡ false) × (keeps ≡ true)
-  was_written e = not_refused short keeps size (sym (ap (λ (x : Writing). (writing_told x).number) answer_is) ∙ e)
+  was_written e = not_refused short keeps size (sym (ap (λ (x : Result ℕ Refusal). (writing_told x).number) answer_is) ∙ e)
 
 pub write_refuses : WriteRefuses
 write_refuses p buffer r left m = refuses_both p buffer r left m
 
 -- ---- reading
 
-number_0 : (b : Bool) (x : Report) → x.number ≡ 0 → (cond b x unread).number ≡ 0 → b ≡ true
-number_0 true x z e = refl
-number_0 false x z e = absurd (omega (arith, e))
+number_0 : (b : Bool) (x : Report) → number_in (cond b (Ok x) unread) ≡ 0 → b ≡ true
+number_0 true x e = refl
+number_0 false x e = absurd (omega (arith, e))
 
 pub reads_exactly : ReadsExactly
 unfolding reading_of report_of
 reads_exactly s r m = (
-  λ e. is_section_lem s (number_0 (is_section s) (report_of s) refl (sym (ap (λ (x : Report). x.number) m.answered) ∙ e)),
-  λ is. ap (λ (x : Report). x.number) m.answered ∙ rw (section_is s is),
+  λ e. is_section_lem s (number_0 (is_section s) (report_of s) (sym (ap (number_in {A = Report}) m.answered) ∙ e)),
+  λ is. ap (number_in {A = Report}) m.answered ∙ rw (section_is s is),
 )
 
 pub reads_all : ReadsAll
@@ -148,7 +149,7 @@ unfolding reading_of
 reads_all x is =
     let w = within_facts x is in
     record {
-      counts = λ r m. m.answered ∙ rw (section_is (octets_of x) (x, is, refl)) (report_back x w);
+      counts = λ r m. m.answered ∙ rw (section_is (octets_of x) (x, is, refl)) (ap Ok (report_back x w));
       modules = λ k b m. m.answered ∙ dead_back x w k;
       errors = λ k e m. m.answered ∙ error_back x w k;
       options = λ part m. m.handed_over ∙ options_back x w;
@@ -177,7 +178,7 @@ writes_sections p t buffer r left m e =
 parts_of : Section → Parts
 parts_of x = record { modules = length x.dead; bits = bits_of x.dead; numbers = numbers_of x.errors; name = x.name; options = x.options }
 
-written_whole : (x : Section) → Within x → (buffer : List ℕ) (r : Writing) (left : List ℕ) → WriteMeets (parts_of x) buffer r left → length (octets_of x) ≤ length buffer
+written_whole : (x : Section) → Within x → (buffer : List ℕ) (r : Result ℕ Refusal) (left : List ℕ) → WriteMeets (parts_of x) buffer r left → length (octets_of x) ≤ length buffer
     → WrittenAs (octets_of x) buffer r left
 unfolding parts_of
 written_whole x w buffer r left m room =
@@ -196,10 +197,10 @@ writes_all x is p o buffer r left m room =
     written_whole x (within_facts x is) buffer r left (subst (λ (q : Parts). WriteMeets q buffer r left) (parts_same x p o) m) room
 
 -- What is read from a section are its parts.
-read_parts : (x : Section) → is_within x ≡ true → (r : Report) → ReadMeets (octets_of x) r → (p : Parts) → ReadFrom (octets_of x) r p → PartsOf x p
+read_parts : (x : Section) → is_within x ≡ true → (r : Report) → ReadMeets (octets_of x) (Ok r) → (p : Parts) → ReadFrom (octets_of x) r p → PartsOf x p
 read_parts x is r m p f =
     let w = within_facts x is in
-    let says : r ≡ report x = (reads_all x is).counts r m in
+    let says : r ≡ report x = let same = (reads_all x is).counts (Ok r) m in cc in
     let errors : r.errors ≡ length x.errors = ap (λ (y : Report). y.errors) says in
     let count : r.modules ≡ modules_in (octets_of x) = ap (λ (y : Report). y.modules) says ∙ sym (says_modules x w) in
     record {
@@ -214,10 +215,10 @@ read_parts x is r m p f =
     }
 
 pub writes_same : WritesSame
-writes_same s r m e =
-    let x = (reads_exactly s r m).0 e in
+writes_same s r m =
+    let x = (reads_exactly s (Ok r) m).0 refl in
     subst
-    (λ (t : List ℕ). ReadMeets t r → (p : Parts) → ReadFrom t r p → (buffer : List ℕ) (a : Writing) (left : List ℕ) → WriteMeets p buffer a left → length t ≤ length buffer
+    (λ (t : List ℕ). ReadMeets t (Ok r) → (p : Parts) → ReadFrom t r p → (buffer : List ℕ) (a : Result ℕ Refusal) (left : List ℕ) → WriteMeets p buffer a left → length t ≤ length buffer
     → WrittenAs t buffer a left)
     x.2 (λ n p f. writes_all x.0 x.1 p (read_parts x.0 x.1 r n p f)) m
 

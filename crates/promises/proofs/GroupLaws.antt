@@ -1,5 +1,5 @@
 -- What 02 asks of packets to groups, after every past. Assumes nothing.
-use Rattle.std.specs.Prelude.{ℕ, ◌+◌, ◌*◌, ◌≤◌, ◌≡◌, ◌≢◌, ◌⊎◌, Bool, true, not, ◌&&◌, List, [], ◌∷◌, length, drop, get_or, replicate}
+use Rattle.std.specs.Prelude.{ℕ, ◌+◌, ◌*◌, ◌≤◌, ◌≡◌, ◌≢◌, Bool, true, not, ◌&&◌, List, [], ◌∷◌, length, drop, get_or, replicate}
 use Rattle.std.proofs.Math.Path.{refl, ap}
 use Rattle.std.proofs.Common.{sym, subst, ◌∙◌, inl, inr, arith, length-append, drop_at}
 use Rattle.std.proofs.Math.Logic.{⊎_elim}
@@ -22,11 +22,12 @@ use Rattle.state.specs.Limits.{last_within}
 use Rattle.state.specs.Table.{found}
 use Rattle.answers.specs.declared.Setup.{Setup}
 use Rattle.answers.specs.declared.Started.{Started}
+use Rattle.refusal.specs.declared.Refusal.TheVariants as refusals
 use Rattle.answers.specs.Told.{GroupTold}
 use Rattle.rules.proofs.calls.ExactlyLaws.{multicast_refuses}
 use Rattle.rules.specs.calls.First.{Row, row, first}
 use Rattle.rules.specs.calls.First as rows
-use Rattle.rules.proofs.calls.FirstLaws.{first_given}
+use Rattle.rules.proofs.calls.FirstLaws.{first_given, refusal_given, some_number}
 use Rattle.rules.specs.calls.Multicast.{Tables, entries_of, entry_place, entry_at, place_for, cast_rows, listening, cast_outcome, multicast_rows, multicast_tables, one_piece, tables_within}
 use Rattle.rules.proofs.calls.MessageLaws.{head_pri}
 use Rattle.rules.proofs.calls.MulticastLaws.{tables_of, cast_facts, place_apart, kept_other}
@@ -85,7 +86,7 @@ zeros_pass q =
     })
 
 -- Its row does not apply,
-not_here : (b : Bool) (rs : List Row) → b ≡ false → ¬ (rows.Given rs 26) → ¬ (rows.Given (row 26 b ∷ rs) 26)
+not_here : (b : Bool) (rs : List Row) → b ≡ false → ¬ (rows.Given rs 26) → ¬ (rows.Given (row refusals.Tables b ∷ rs) 26)
 unfolding rows.Given
 not_here b rs e others (inl here) = never_both here.0 e
 not_here b rs e others (inr later) = others later.1
@@ -96,12 +97,12 @@ nothing_given given = given
 
 -- and no other row has its number.
 not_twenty_six : (ok right b12 b13 b14 b25 b15 b16 b17 : Bool) → right ≡ true
-    → ¬ (rows.Given (row 9 ok ∷ row 26 (not right) ∷ row 12 b12 ∷ row 13 b13 ∷ row 14 b14 ∷ row 25 b25 ∷ row 15 b15 ∷ row 16 b16 ∷ row 17 b17 ∷ []) 26)
+    → ¬ (rows.Given (row refusals.State ok ∷ row refusals.Tables (not right) ∷ row refusals.Length b12 ∷ row refusals.Header b13 ∷ row refusals.Sender b14 ∷ row refusals.Group b25 ∷ row refusals.Test b15 ∷ row refusals.Cut b16 ∷ row refusals.Repeat b17 ∷ []) 26)
 not_twenty_six ok right b12 b13 b14 b25 b15 b16 b17 e =
-    not_behind 26 9 ok _ (λ z. omega (arith, z)) (not_here (not right) _ (rw e)
-    (not_behind 26 12 b12 _ (λ z. omega (arith, z)) (not_behind 26 13 b13 _ (λ z. omega (arith, z)) (not_behind 26 14 b14 _ (λ z. omega (arith, z))
-    (not_behind 26 25 b25 _ (λ z. omega (arith, z)) (not_behind 26 15 b15 _ (λ z. omega (arith, z)) (not_behind 26 16 b16 _ (λ z. omega (arith, z))
-    (not_behind 26 17 b17 _ (λ z. omega (arith, z)) nothing_given))))))))
+    not_behind 26 refusals.State ok _ (λ z. omega (arith, z)) (not_here (not right) _ (rw e)
+    (not_behind 26 refusals.Length b12 _ (λ z. omega (arith, z)) (not_behind 26 refusals.Header b13 _ (λ z. omega (arith, z)) (not_behind 26 refusals.Sender b14 _ (λ z. omega (arith, z))
+    (not_behind 26 refusals.Group b25 _ (λ z. omega (arith, z)) (not_behind 26 refusals.Test b15 _ (λ z. omega (arith, z)) (not_behind 26 refusals.Cut b16 _ (λ z. omega (arith, z))
+    (not_behind 26 refusals.Repeat b17 _ (λ z. omega (arith, z)) nothing_given))))))))
 
 pub never_twenty_six : NeverTwentySix
 unfolding cast_rows
@@ -128,7 +129,9 @@ own_entry_only w t g packet r v meets i j p below small other =
     unfold multicast_tables in kept_other t (place_for s g h) k (cast_outcome s t g packet h) h
     (λ same. other (place_apart w.state.groups.count i j p (found w.state h) (groups.place_of w.state.groups g) h.given.pri below facts.in_group small (head_pri packet h facts.head_within_lem) same)))
     (λ (some : n ≢ 0).
-    ap (λ (x : Tables). entry_at x k) (multicast_refuses w.state t g packet n (first_given (multicast_rows w.state t g packet) n refl some)).1)
+    let given = refusal_given (multicast_rows w.state t g packet) some in
+    ap (λ (x : Tables). entry_at x k)
+    (multicast_refuses w.state t g packet given.0 (first_given (multicast_rows w.state t g packet) _ given.1.1 (some_number given.0))).1)
     (eq_or_ne n 0))
 
 -- ---- a message to a group

@@ -2,20 +2,19 @@
 -- storage that the one before left." Here a call is known by its public contract alone, as a relation between what it
 -- was given, what it answered and what it left: so a course is that of any program whose calls meet the contracts. That
 -- ours do is shown by the functions of src/.
-use Rattle.std.specs.Prelude.{ℕ, ◌*◌, ◌≡◌, Bool, List, [], ◌∷◌, length}
+use Rattle.std.specs.Prelude.{ℕ, ◌*◌, ◌≡◌, Bool, List, [], ◌∷◌, Result, length}
+use Rattle.refusal.specs.declared.Refusal.{Refusal}
 use Rattle.header.specs.declared.Given.{Given}
-use Rattle.cut.specs.declared.cutter.Cutting.{Cutting}
 use Rattle.cut.specs.Cutter.{cutter_answer, cutter_buffer}
 use Rattle.fault.specs.declared.Error.{Error}
 use Rattle.fault.specs.declared.reading.Report.{Report}
-use Rattle.fault.specs.declared.writing.Writing.{Writing}
 use Rattle.fault.specs.Reading.{reading_of, dead_at, error_at, options_of}
 use Rattle.fault.specs.Writing.{writing_of, buffer_of}
 use Rattle.state.specs.declared.Receiver.{Receiver}
 use Rattle.state.specs.Held.{held_at}
 use Rattle.answers.specs.declared.Answer.{Answer}
 use Rattle.answers.specs.declared.GroupAnswer.{GroupAnswer}
-use Rattle.answers.specs.declared.Missing.{Missing}
+use Rattle.answers.specs.Told.{Missing}
 use Rattle.answers.specs.declared.Noted.{Noted}
 use Rattle.answers.specs.declared.Setup.{Setup}
 use Rattle.answers.specs.declared.Started.{Started}
@@ -85,12 +84,12 @@ pub record HeldMeets (w : World) (place held : ℕ) : Type 0 where
   pub answered : held ≡ held_at w.state place
 
 -- The cutter stands in no past: it makes packets.
-pub record CutterMeets (g : Given) (m : List ℕ) (u c : ℕ) (buffer : List ℕ) (r : Cutting) (left : List ℕ) : Type 0 where
+pub record CutterMeets (g : Given) (m : List ℕ) (u c : ℕ) (buffer : List ℕ) (r : Result ℕ Refusal) (left : List ℕ) : Type 0 where
   pub answered : r ≡ cutter_answer g m u c (length buffer)
   pub written : left ≡ cutter_buffer g m u c buffer
 
 -- 02, Item 2: nor do the calls of the fault section, which are given no state.
-pub record ReadMeets (s : List ℕ) (r : Report) : Type 0 where
+pub record ReadMeets (s : List ℕ) (r : Result Report Refusal) : Type 0 where
   pub answered : r ≡ reading_of s
 
 pub record DeadMeets (s : List ℕ) (k : ℕ) (dead : Bool) : Type 0 where
@@ -114,7 +113,7 @@ pub record Parts : Type 0 where
 abbrev pub parts : ℕ → (bits numbers name options : List ℕ) → Parts
 parts modules bits numbers name options = record { modules = modules; bits = bits; numbers = numbers; name = name; options = options }
 
-pub record WriteMeets (p : Parts) (buffer : List ℕ) (r : Writing) (left : List ℕ) : Type 0 where
+pub record WriteMeets (p : Parts) (buffer : List ℕ) (r : Result ℕ Refusal) (left : List ℕ) : Type 0 where
   pub answered : r ≡ writing_of p.modules p.bits p.numbers p.options (length buffer)
   pub written : left ≡ buffer_of p.modules p.bits p.numbers p.name p.options buffer
 

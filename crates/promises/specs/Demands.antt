@@ -5,24 +5,24 @@
 --
 -- Of demand 1, "Nothing is read or written outside what was lent, and every call ends" is what the proof of every
 -- function shows, contract or not.
-use Rattle.std.specs.Prelude.{ℕ, ◌+◌, ◌*◌, ◌≤◌, ◌<◌, ◌≡◌, ◌≢◌, ◌⊎◌, Bool, true, false, not, cond, eqb, ltb, length, take, drop, get_or, replicate}
+use Rattle.std.specs.Prelude.{ℕ, ◌+◌, ◌*◌, ◌≤◌, ◌<◌, ◌≡◌, ◌≢◌, ◌⊎◌, Bool, true, false, not, cond, Result, Ok, eqb, ltb, length, take, drop, get_or, replicate}
 use mathlib.Core.List.{List, [], ◌∷◌, ◌++◌, map, Memᴰ}
 use Rattle.std.specs.Int.Count.{ones}
 use Rattle.std.proofs.Math.Pow.{are_bytes}
 use Rattle.octets.specs.Run.{run}
+use Rattle.refusal.specs.declared.Refusal.{Refusal}
+use Rattle.refusal.specs.Numbers.{number_in as answer_number}
 use Rattle.ring.specs.Edges as newer_edges
 use Rattle.ring.specs.Check.{is_repeat}
 use Rattle.ring.specs.Printed.{CheckAsPrinted, NewerAsPrinted}
 use Rattle.header.specs.declared.Given.{Given}
 use Rattle.header.specs.Head.{head_of, header}
 use Rattle.header.specs.Printed.{HeaderAsPrinted}
-use Rattle.cut.specs.declared.cutter.Cutting.{Cutting}
 use Rattle.cut.specs.Cutter.{Words, cuts, cutter_told}
 use Rattle.cut.specs.Edges.{all, edges}
 use Rattle.cut.specs.Printed.{Limits, CutsAsPrinted, PossibleAsPrinted}
 use Rattle.fault.specs.declared.Error.{Error}
 use Rattle.fault.specs.declared.reading.Report.{Report}
-use Rattle.fault.specs.declared.writing.Writing.{Writing}
 use Rattle.fault.specs.Edges as fault_edges
 use Rattle.fault.specs.Reading.{is_section, report, refused as unread, no_error}
 use Rattle.fault.specs.Section.{Section, is_dead, bits_size, bits_of, numbers_of, octets_of, is_within, SectionOf}
@@ -32,6 +32,7 @@ use Rattle.groups.specs.Groups.{number_at}
 use Rattle.state.specs.Limits.{given}
 use Rattle.state.specs.State.{empty_receiver, sender_at}
 use Rattle.state.specs.Table.{source, found}
+use Rattle.refusal.specs.declared.Refusal.TheVariants as refusals
 use Rattle.answers.specs.declared.Setup.{Setup}
 use Rattle.answers.specs.declared.Started.{Started}
 use Rattle.answers.specs.Told.{RefusedAs, OutcomeTold, delivered_as, HasVerdict, nothing_handed, message_told, message_refused, group_told, group_refused, call_number, clock_told, clock_refused, question_told, none_open, OutcomeTells, CallTells, MissingTells}
@@ -110,12 +111,12 @@ CallsRefuse = (w : World) (e : Event) (r : Said e) (v : World) → Meets w e r v
 -- "10: setup outside its limits: empty state"
 abbrev pub SetupRefuses : Type 0
 SetupRefuses = (q : Setup) (r : Started) (w : World) → SetupMeets q r w
-    → Refuses (row 10 (not (setup_within q)) ∷ []) (call_number r.call) (λ k. w.state ≡ empty_receiver)
+    → Refuses (row refusals.Setup (not (setup_within q)) ∷ []) (call_number r.call) (λ k. w.state ≡ empty_receiver)
 
 -- "23: cutter: n, u, piece number or a header value outside limits, or buffer short"
 abbrev pub CutterRefuses : Type 0
-CutterRefuses = (g : Given) (m : List ℕ) (u c : ℕ) (buffer : List ℕ) (r : Cutting) (left : List ℕ) → CutterMeets g m u c buffer r left
-    → Refuses (row 23 (not (cuts g m u c (length buffer))) ∷ []) (cutter_told r).number (λ k. ((cutter_told r).length ≡ 0) × (left ≡ buffer))
+CutterRefuses = (g : Given) (m : List ℕ) (u c : ℕ) (buffer : List ℕ) (r : Result ℕ Refusal) (left : List ℕ) → CutterMeets g m u c buffer r left
+    → Refuses (row refusals.Writing (not (cuts g m u c (length buffer))) ∷ []) (cutter_told r).number (λ k. ((cutter_told r).length ≡ 0) × (left ≡ buffer))
 
 -- A number is told by one case of an answer alone, since a refusal has one of 9 or more: what is said here of numbers
 -- and values is said of the answers (`one_answer`, `one_group`, `one_call` and `one_missing` of `answers`).
@@ -170,7 +171,7 @@ pub record Cut (g : Given) (octets : List ℕ) (u c : ℕ) (packet : List ℕ) :
   pub buffer : List ℕ
   pub room : 1460 ≤ length buffer
   pub left : List ℕ
-  pub answer : Cutting
+  pub answer : Result ℕ Refusal
   pub called : CutterMeets g octets u c buffer answer left
   pub begins : packet ≡ take (cutter_told answer).length left
 
@@ -251,20 +252,20 @@ DifferMeetsNine = (w : World) (i : ℕ) → i < w.state.count
 
 -- "Refusals: 24 for a fault section that breaks these rules, … read or written; 23 for a short buffer", 23 first.
 abbrev pub ReadRefuses : Type 0
-ReadRefuses = (s : List ℕ) (r : Report) → ReadMeets s r → Refuses (row 24 (not (is_section s)) ∷ []) r.number (λ k. r ≡ unread)
+ReadRefuses = (s : List ℕ) (r : Result Report Refusal) → ReadMeets s r → Refuses (row refusals.Fault (not (is_section s)) ∷ []) (answer_number r) (λ k. r ≡ unread)
 
 abbrev pub WriteRefuses : Type 0
-WriteRefuses = (p : Parts) (buffer : List ℕ) (r : Writing) (left : List ℕ) → WriteMeets p buffer r left
+WriteRefuses = (p : Parts) (buffer : List ℕ) (r : Result ℕ Refusal) (left : List ℕ) → WriteMeets p buffer r left
     → let size = size_given p.modules p.numbers p.options in
-    Refuses (row 23 (ltb (length buffer) size) ∷ row 24 (not (keeps_rules size p.modules p.bits p.numbers)) ∷ []) (writing_told r).number
+    Refuses (row refusals.Writing (ltb (length buffer) size) ∷ row refusals.Fault (not (keeps_rules size p.modules p.bits p.numbers)) ∷ []) (writing_told r).number
     (λ k. ((writing_told r).length ≡ 0) × (left ≡ buffer))
 
 -- A section is accepted, and nothing else: both directions. What is read from it is what it says.
 abbrev pub ReadsExactly : Type 0
-ReadsExactly = (s : List ℕ) (r : Report) → ReadMeets s r → (r.number ≡ 0 → SectionOf s) × (SectionOf s → r.number ≡ 0)
+ReadsExactly = (s : List ℕ) (r : Result Report Refusal) → ReadMeets s r → (answer_number r ≡ 0 → SectionOf s) × (SectionOf s → answer_number r ≡ 0)
 
 pub record ReadBack (x : Section) : Type 0 where
-  pub counts : (r : Report) → ReadMeets (octets_of x) r → r ≡ report x
+  pub counts : (r : Result Report Refusal) → ReadMeets (octets_of x) r → r ≡ Ok (report x)
   pub modules : (k : ℕ) (b : Bool) → DeadMeets (octets_of x) k b → b ≡ is_dead x k
   pub errors : (k : ℕ) (e : Error) → ErrorMeets (octets_of x) k e → e ≡ get_or x.errors k no_error
   pub options : (part : List ℕ) → OptionsMeets (octets_of x) part → part ≡ x.options
@@ -286,19 +287,19 @@ pub record PartsOf (x : Section) (p : Parts) : Type 0 where
   pub options : p.options ≡ x.options
 
 -- It was written, and "Octets behind the section stay".
-pub record WrittenAs (octets buffer : List ℕ) (r : Writing) (left : List ℕ) : Type 0 where
+pub record WrittenAs (octets buffer : List ℕ) (r : Result ℕ Refusal) (left : List ℕ) : Type 0 where
   pub told : writing_told r ≡ record { number = 0; length = length octets }
   pub begins : left ≡ octets ++ drop (length octets) buffer
 
 -- What is written is a section within the rules that has these parts, so that "Reading gives back what was written";
 abbrev pub WritesSections : Type 0
-WritesSections = (p : Parts) → OfTypes p → (buffer : List ℕ) (r : Writing) (left : List ℕ) → WriteMeets p buffer r left
+WritesSections = (p : Parts) → OfTypes p → (buffer : List ℕ) (r : Result ℕ Refusal) (left : List ℕ) → WriteMeets p buffer r left
     → (writing_told r).number ≡ 0 → (x : Section) × (is_within x ≡ true) × PartsOf x p × WrittenAs (octets_of x) buffer r left
 
 -- and every such section is written, where it has room.
 abbrev pub WritesAll : Type 0
 WritesAll = (x : Section) → is_within x ≡ true → (p : Parts) → PartsOf x p
-    → (buffer : List ℕ) (r : Writing) (left : List ℕ) → WriteMeets p buffer r left → length (octets_of x) ≤ length buffer
+    → (buffer : List ℕ) (r : Result ℕ Refusal) (left : List ℕ) → WriteMeets p buffer r left → length (octets_of x) ≤ length buffer
     → WrittenAs (octets_of x) buffer r left
 
 -- "writing what was read gives the same octets": the counts, the name and the options as they were told, the bits as they
@@ -313,8 +314,8 @@ pub record ReadFrom (s : List ℕ) (r : Report) (p : Parts) : Type 0 where
   pub options : OptionsMeets s p.options
 
 abbrev pub WritesSame : Type 0
-WritesSame = (s : List ℕ) (r : Report) → ReadMeets s r → r.number ≡ 0 → (p : Parts) → ReadFrom s r p
-    → (buffer : List ℕ) (a : Writing) (left : List ℕ) → WriteMeets p buffer a left → length s ≤ length buffer
+WritesSame = (s : List ℕ) (r : Report) → ReadMeets s (Ok r) → (p : Parts) → ReadFrom s r p
+    → (buffer : List ℕ) (a : Result ℕ Refusal) (left : List ℕ) → WriteMeets p buffer a left → length s ≤ length buffer
     → WrittenAs s buffer a left
 
 -- "129 to 147 octets of PDU are 24": nothing shorter than 20 octets is a section.
@@ -434,19 +435,19 @@ OneStart = (q : Setup) (r t : Started) (w u : World) → SetupMeets q r w → Se
 
 -- and the same cutting writes the same.
 abbrev pub OneCutting : Type 0
-OneCutting = (g : Given) (m : List ℕ) (u c : ℕ) (buffer : List ℕ) (r t : Cutting) (left right : List ℕ)
+OneCutting = (g : Given) (m : List ℕ) (u c : ℕ) (buffer : List ℕ) (r t : Result ℕ Refusal) (left right : List ℕ)
     → CutterMeets g m u c buffer r left → CutterMeets g m u c buffer t right → (r ≡ t) × (left ≡ right)
 
 -- The fault section is read and written in one way.
 abbrev pub OneReading : Type 0
 OneReading = (s : List ℕ)
-    → ((r t : Report) → ReadMeets s r → ReadMeets s t → r ≡ t)
+    → ((r t : Result Report Refusal) → ReadMeets s r → ReadMeets s t → r ≡ t)
     × ((k : ℕ) (a b : Bool) → DeadMeets s k a → DeadMeets s k b → a ≡ b)
     × ((k : ℕ) (e f : Error) → ErrorMeets s k e → ErrorMeets s k f → e ≡ f)
     × ((part other : List ℕ) → OptionsMeets s part → OptionsMeets s other → part ≡ other)
 
 abbrev pub OneWriting : Type 0
-OneWriting = (p : Parts) (buffer : List ℕ) (r t : Writing) (left right : List ℕ) → WriteMeets p buffer r left → WriteMeets p buffer t right
+OneWriting = (p : Parts) (buffer : List ℕ) (r t : Result ℕ Refusal) (left right : List ℕ) → WriteMeets p buffer r left → WriteMeets p buffer t right
     → (r ≡ t) × (left ≡ right)
 
 -- "Proved together as one table with one claim over it (*)"

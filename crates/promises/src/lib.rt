@@ -7,6 +7,7 @@
 #![tactic(auto)]
 
 ghost use Rattle.std.specs.Prelude.{◌≡◌, List, ℕ, ◌*◌, length};
+ghost use Rattle.refusal.specs.Numbers.{number_in};
 ghost use Rattle.cut.specs.Cutter.{cutter_answer, cutter_buffer};
 ghost use Rattle.fault.specs.Reading.{reading_of, dead_at, error_at, options_of};
 ghost use Rattle.fault.specs.Section.{SectionOf};
@@ -28,7 +29,7 @@ ghost use Rattle.board.specs.Calls.{setup_for, setup_words, message_for, storage
 ghost use Rattle.promises.specs.Board.{board, world_of, BoardMeets, BoardStarts};
 ghost use Rattle.promises.specs.Course.{world, messages_of, Leads, SetupMeets, MessageMeets, TallyMeets, PartMeets, AliveMeets, ClockMeets, QuestionMeets, GroupMeets, HeldMeets, CutterMeets, ReadMeets, DeadMeets, ErrorMeets, OptionsMeets, parts, WriteMeets};
 
-use answers::{Answer, GroupAnswer, Missing, Noted, Setup, Started, Ticked, Where};
+use answers::{Answer, GroupAnswer, MissingPiece, Noted, Setup, Started, Ticked, Where};
 use board::Told;
 use board_alive::adp_alive;
 use board_clock::adp_clock;
@@ -38,12 +39,11 @@ use board_multicast::adp_multicast;
 use board_question::adp_question;
 use board_setup::adp_setup;
 use board_tallied::adp_message_tallied;
-use cut::cutter::Cutting;
 use fault::reading::Report;
-use fault::writing::Writing;
 use fault::{Error, NAME, reading, writing};
 use groups::Group;
 use header::Given;
+use refusal::Refusal;
 use state::Receiver;
 use tally::Tally;
 
@@ -105,7 +105,7 @@ pub fn clock(state: Receiver, ms: u64) -> Ticked
     clock::clock(state, ms)
 }
 
-pub fn question(state: Receiver) -> Missing
+pub fn question(state: Receiver) -> Result<Option<MissingPiece>, Refusal>
     ensures answer { result ≡ question_answer state }
     ensures meets { (storage : List ℕ) → QuestionMeets (world state storage) result (world state storage) }
 {
@@ -136,7 +136,13 @@ pub fn held(state: Receiver, place: u8) -> u8
     state.held(place)
 }
 
-pub fn cutter(given: Given, message: &[u8], u: u16, piece: u8, buffer: &mut [u8]) -> Cutting
+pub fn cutter(
+    given: Given,
+    message: &[u8],
+    u: u16,
+    piece: u8,
+    buffer: &mut [u8],
+) -> Result<u16, Refusal>
     ensures answer { result ≡ cutter_answer given message.now u piece (length buffer.old) }
     ensures written { buffer.new ≡ cutter_buffer given message.now u piece buffer.old }
     ensures meets { CutterMeets given message.now u piece buffer.old result buffer.new }
@@ -146,11 +152,11 @@ pub fn cutter(given: Given, message: &[u8], u: u16, piece: u8, buffer: &mut [u8]
 
 // ---- the fault section
 
-pub fn read_section(s: &[u8]) -> Report
+pub fn read_section(s: &[u8]) -> Result<Report, Refusal>
     ensures answer { result ≡ reading_of s.now }
     ensures meets { ReadMeets s.now result }
     // What is read is exactly the octets of sections within the rules.
-    ensures section { (result.number ≡ 0 → SectionOf s.now) × (SectionOf s.now → result.number ≡ 0) }
+    ensures section { (number_in result ≡ 0 → SectionOf s.now) × (SectionOf s.now → number_in result ≡ 0) }
 {
     reading::read_section(s)
 }
@@ -183,7 +189,7 @@ pub fn write_section(
     name: [u8; NAME],
     options: &[u8],
     buffer: &mut [u8],
-) -> Writing
+) -> Result<u16, Refusal>
     ensures answer { result ≡ writing_of modules bits.now errors.now options.now (length buffer.old) }
     ensures written { buffer.new ≡ buffer_of modules bits.now errors.now name options.now buffer.old }
     ensures meets { WriteMeets (parts modules bits.now errors.now name options.now) buffer.old result buffer.new }

@@ -4,35 +4,30 @@
 ghost use Rattle.std.specs.Prelude.{◌≡◌};
 ghost use Rattle.rules.specs.calls.Question.{pieces_of, question_answer};
 
-use answers::Missing;
+use answers::MissingPiece;
 use map::holds;
+use refusal::Refusal;
 use state::{Receiver, Sender};
 
-pub fn question(state: Receiver) -> Missing
+pub fn question(state: Receiver) -> Result<Option<MissingPiece>, Refusal>
     ensures { result ≡ question_answer state }
 {
     if !state.within() {
-        return Missing::Refused(9);
+        return Err(Refusal::State);
     }
     let count = state.count;
-    let mut missing = Missing::NoneOpen;
-    let mut i: u8 = 0;
-    'senders: while i < count {
+    let mut missing = None;
+    'senders: for i in 0..count {
         let s = state.senders[i as usize];
-        let map = s.message.map;
-        let pieces = pieces_of(s);
-        let mut k: u8 = 0;
-        while k < pieces {
+        for k in 0..pieces_of(s) {
             let piece = k + 1;
-            if !holds(map, piece) {
-                missing = Missing::Piece { sender: i, piece };
+            if !holds(s.message.map, piece) {
+                missing = Some(MissingPiece { sender: i, piece });
                 break 'senders;
             }
-            k += 1;
         }
-        i += 1;
     }
-    missing
+    Ok(missing)
 }
 
 // How many pieces there are to look for.

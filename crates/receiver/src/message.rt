@@ -1,7 +1,7 @@
 // The message call. One function holds the state: it finds the sender's place, copies that one record out, and puts it
 // back.
 ghost use Rattle.std.specs.Prelude.{◌≡◌, length};
-ghost use Rattle.rules.specs.calls.First.{first};
+ghost use Rattle.rules.specs.calls.First.{checked};
 ghost use Rattle.rules.specs.calls.Message.{packet_rows, head_within, storage_after, lies_at, where_by, message_answer, message_storage};
 
 use answers::{Answer, Dropped, Outcome, Where};
@@ -9,6 +9,7 @@ use cut::possible::{message_length, own_length, own_place};
 use header::codes::code_of;
 use header::{Head, SIZE, common_within, length_outside, read_head};
 use octets::{lay, run};
+use refusal::Refusal;
 use sender::admit;
 use state::{Address, Receiver};
 
@@ -22,13 +23,9 @@ pub fn message(mut state: Receiver, storage: &mut [u8], packet: &[u8]) -> Answer
     let h = read_head(packet);
     let look = state.look(Address::of(h));
     let at = look.at;
-    let early = packet_number(look.valid, state.count, at, storage.len(), packet, h);
-    if early != 0 {
+    if let Err(refusal) = check_packet(look.valid, state.count, at, storage.len(), packet, h) {
         return Answer {
-            outcome: Outcome::Refused {
-                number: early,
-                age: 0,
-            },
+            outcome: Outcome::Refused { refusal, age: 0 },
             held: 0,
             dropped: Dropped::NONE,
             lies: Where::Nothing,
@@ -38,8 +35,7 @@ pub fn message(mut state: Receiver, storage: &mut [u8], packet: &[u8]) -> Answer
     let s = state.senders[at as usize];
     let a = admit(s, state.test, state.n1, state.clock, h);
     let outcome = a.outcome;
-    let late = outcome.refusal();
-    if late != 0 {
+    if outcome.refusal().is_some() {
         return Answer {
             outcome,
             held: 0,
@@ -62,24 +58,35 @@ pub fn message(mut state: Receiver, storage: &mut [u8], packet: &[u8]) -> Answer
     }
 }
 
-// The first of 9 and 11 to 14 that applies, or 0.
-pub fn packet_number(valid: bool, count: u8, at: u8, room: usize, packet: &[u8], h: Head) -> u8
-    ensures { result ≡ first (packet_rows valid count at room packet.now h) }
+// The first of 9 and 11 to 14 that applies.
+pub fn check_packet(
+    valid: bool,
+    count: u8,
+    at: u8,
+    room: usize,
+    packet: &[u8],
+    h: Head,
+) -> Result<(), Refusal>
+    ensures { result ≡ checked (packet_rows valid count at room packet.now h) }
 {
     let size = packet.len();
     if !valid {
-        return 9;
+        return Err(Refusal::State);
     }
     if room != (count as usize) * Receiver::AREA {
-        return 11;
+        return Err(Refusal::Storage);
     }
     if length_outside(SIZE, MOST, size, h) {
-        return 12;
+        return Err(Refusal::Length);
     }
     if !head_within(packet, h) {
-        return 13;
+        return Err(Refusal::Header);
     }
-    if count <= at { 14 } else { 0 }
+    if count <= at {
+        Err(Refusal::Sender)
+    } else {
+        Ok(())
+    }
 }
 
 // The fixed fields, PRI, MODE, the code and SEQ.
@@ -96,9 +103,8 @@ pub fn where_to(o: Outcome, at: u8, h: Head) -> Where
     ensures { result ≡ where_by o at h }
 {
     match o {
-        Outcome::Refused { number: _, age: _ } => Where::Nothing,
-        Outcome::Stored => Where::Nothing,
         Outcome::Delivered(_) => lies(at, h),
+        _ => Where::Nothing,
     }
 }
 

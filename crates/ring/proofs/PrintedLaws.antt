@@ -1,12 +1,12 @@
 -- The number check is as 01 prints it, and newer as 02 does. Assumes nothing.
-use Rattle.std.specs.Prelude.{ℕ, ◌+◌, ◌-◌, ◌≡◌, refl, ◌≢◌, ◌⊎◌}
+use Rattle.std.specs.Prelude.{ℕ, ◌+◌, ◌≡◌, refl, ◌≢◌}
 use Rattle.std.proofs.Common.{sym, ap, subst, ◌∙◌, ⊎_elim, arith}
 use Rattle.octets.specs.Split.{eq_or_ne}
 use Rattle.ring.specs.declared.Number.{Number}
 use Rattle.ring.specs.declared.Version.{Version}
 use Rattle.ring.specs.declared.Verdict.{Verdict}
 use Rattle.ring.specs.declared.Verdict.TheVariants.{Repeat, Gap}
-use Rattle.ring.specs.Ring.{remainder, skipped}
+use Rattle.ring.specs.Ring.{remainder}
 use Rattle.ring.proofs.RingLaws.{remainder_bound, remainder_on, remainder_only, remainder_none, newer_near, newer_far, newer_none}
 use Rattle.ring.specs.Check.{Says}
 use Rattle.ring.specs.Check.Says.{rule_1, rule_2, rule_3, rule_4_repeat, rule_4_next, rule_4_gap}

@@ -11,12 +11,12 @@ ghost use Rattle.ring.specs.Check.{check, verdict_number, verdict_skipped, verdi
 
 // V_SEQ: any 32-bit number.
 #[repr(C)]
-#[derive(Clone, Copy)]
+#[derive(Clone, Copy, PartialEq, Eq)]
 pub struct Version(pub u32);
 
 // SEQ: 1 to M, used cyclically.
 #[repr(C)]
-#[derive(Clone, Copy)]
+#[derive(Clone, Copy, PartialEq, Eq)]
 pub struct Number(pub u32);
 
 pub const M: u32 = 2_147_483_647;
@@ -25,7 +25,7 @@ pub const M: u32 = 2_147_483_647;
 const HALF: u32 = 1_073_741_823;
 
 // What the number check says of a message. A repeat is refused, so it has no verdict of its own in what is printed.
-#[derive(Clone, Copy)]
+#[derive(Clone, Copy, PartialEq, Eq)]
 pub enum Verdict {
     Unchecked,
     First,
@@ -42,11 +42,12 @@ impl Number {
     pub fn within(self) -> bool
         ensures { result ≡ is_number self.0 }
     {
-        (1 <= self.0) & (self.0 <= M)
+        (1..=M).contains(&self.0)
     }
 }
 
 // How far back s lies behind r, 0 to M - 1.
+#[tactic(auto, unfolding(crate::specs::Ring::remainder))]
 pub fn back(r: Number, s: Number) -> u32
     ensures { result ≡ back_of r s }
 {
@@ -66,11 +67,11 @@ fn on_ring(x: u32) -> u32
 pub fn newer(a: Number, b: Number) -> bool
     ensures { result ≡ is_newer a b }
 {
-    if a.0 == b.0 {
+    if a == b {
         return false;
     }
     let d = back(a, b);
-    (1 <= d) & (d <= HALF)
+    (1..=HALF).contains(&d)
 }
 
 // What the last delivered version rv and number r make of a message with version v and number s.
@@ -83,7 +84,7 @@ pub fn number_check(n1: u16, rv: Version, r: Number, v: Version, s: Number) -> V
     if rv.0 == 0 {
         return Verdict::First;
     }
-    if v.0 != rv.0 {
+    if v != rv {
         return Verdict::Restart;
     }
     by_distance(n1, back(r, s))
@@ -124,11 +125,7 @@ impl Verdict {
     {
         match self {
             Verdict::Gap(k) => k,
-            Verdict::Unchecked => 0,
-            Verdict::First => 0,
-            Verdict::Restart => 0,
-            Verdict::Repeat(_) => 0,
-            Verdict::Next => 0,
+            _ => 0,
         }
     }
 
@@ -138,37 +135,19 @@ impl Verdict {
     {
         match self {
             Verdict::Repeat(d) => d,
-            Verdict::Unchecked => 0,
-            Verdict::First => 0,
-            Verdict::Restart => 0,
-            Verdict::Next => 0,
-            Verdict::Gap(_) => 0,
+            _ => 0,
         }
     }
 
     pub fn is_repeat(self) -> bool
         ensures { result ≡ is_repeat self }
     {
-        match self {
-            Verdict::Unchecked => false,
-            Verdict::First => false,
-            Verdict::Restart => false,
-            Verdict::Repeat(_) => true,
-            Verdict::Next => false,
-            Verdict::Gap(_) => false,
-        }
+        matches!(self, Verdict::Repeat(_))
     }
 
     pub fn is_unchecked(self) -> bool
         ensures { result ≡ is_unchecked self }
     {
-        match self {
-            Verdict::Unchecked => true,
-            Verdict::First => false,
-            Verdict::Restart => false,
-            Verdict::Repeat(_) => false,
-            Verdict::Next => false,
-            Verdict::Gap(_) => false,
-        }
+        matches!(self, Verdict::Unchecked)
     }
 }

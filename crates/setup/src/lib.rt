@@ -6,7 +6,8 @@ ghost use Rattle.rules.specs.calls.Setup.{setup_within, setup_state, setup_answe
 ghost use Rattle.setup.specs.private.Settled.{settled as settled_by};
 ghost use Rattle.state.specs.State.{senders_most, empty_receiver};
 
-use answers::{Call, Setup, Started};
+use answers::{Setup, Started};
+use refusal::Refusal;
 use state::{Address, Receiver, Sender};
 
 pub fn setup(q: Setup) -> Started
@@ -16,12 +17,12 @@ pub fn setup(q: Setup) -> Started
     let state = new_state(q, within);
     if !within {
         return Started {
-            call: Call::Refused(10),
+            call: Err(Refusal::Setup),
             state,
         };
     }
     Started {
-        call: Call::Done,
+        call: Ok(()),
         state,
     }
 }
@@ -66,12 +67,10 @@ fn new_state(q: Setup, within: bool) -> Receiver
     let mut state = settled(q, within);
     let count = state.count;
     let addresses = q.senders;
-    let mut i: u8 = 0;
-    while i < count {
+    for i in 0..count {
         let a = addresses[i as usize];
         let s = Sender::new(a);
         state.senders[i as usize] = s;
-        i += 1;
     }
     state
 }

@@ -27,6 +27,7 @@ pub struct Body {
 }
 
 impl Body {
+    #[tactic(auto, unfolding(crate::specs::Alive::is_body))]
     pub fn within(self) -> bool
         ensures { result ≡ is_body self }
     {
@@ -34,6 +35,7 @@ impl Body {
     }
 }
 
+#[tactic(auto, unfolding(crate::specs::Alive::body_of))]
 pub fn read_body(packet: &[u8]) -> Body
     ensures { result ≡ body_of packet.now }
 {

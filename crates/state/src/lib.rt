@@ -4,7 +4,7 @@
 // What is not open, not alive or past the senders is written 0 and never looked at.
 #![tactic(auto)]
 
-ghost use Rattle.std.specs.Prelude.{◌≡◌, cond, not, ◌||◌, ◌+◌, ◌<◌, ltb};
+ghost use Rattle.std.specs.Prelude.{◌≡◌, Bool, cond, not, ◌||◌, ◌+◌, ◌<◌, ltb};
 ghost use Rattle.state.specs.Limits.{is_address, same_address, last_within, message_within, sender_within, settings_within, addresses_within, valid};
 ghost use Rattle.state.specs.Key.{key_of, Narrow, new_key};
 ghost use Rattle.state.specs.Held.{held_at};
@@ -20,7 +20,7 @@ use map::{held, is_partial};
 use ring::{M, Number, Version};
 
 // The last delivered version RV and number R.
-#[derive(Clone, Copy)]
+#[derive(Clone, Copy, PartialEq, Eq)]
 pub struct Last {
     pub version: Version,
     pub number: Number,
@@ -30,7 +30,7 @@ pub struct Last {
 // the clock at its newest piece.
 //
 // The two octets stand together: apart, the record would be longer by eight.
-#[derive(Clone, Copy)]
+#[derive(Clone, Copy, PartialEq, Eq)]
 pub struct Message {
     pub version: Version,
     pub number: Number,
@@ -44,7 +44,7 @@ pub struct Message {
 }
 
 // When an alive sender was heard, and after how many seconds of silence it is dead.
-#[derive(Clone, Copy)]
+#[derive(Clone, Copy, PartialEq, Eq)]
 pub struct Heard {
     pub stamp: u64,
     pub timeout: u32,
@@ -52,15 +52,15 @@ pub struct Heard {
 
 // Where a sender sends from.
 #[repr(C)]
-#[derive(Clone, Copy)]
+#[derive(Clone, Copy, PartialEq, Eq)]
 pub struct Address {
     pub field: DataField,
     pub node: Node,
 }
 
-// The two flags stand together: apart, between larger fields, each would cost one move more for every sender where a
-// state is copied.
-#[derive(Clone, Copy)]
+// Flags and not Options: a program shows what damage left in a record that is not open or alive (docs/EDGES.md, r and W).
+// They stand together: apart, each would cost one move more for every sender where a state is copied.
+#[derive(Clone, Copy, PartialEq, Eq)]
 pub struct Sender {
     pub address: Address,
     pub open: bool,
@@ -70,7 +70,7 @@ pub struct Sender {
     pub heard: Heard,
 }
 
-#[derive(Clone, Copy)]
+#[derive(Clone, Copy, PartialEq, Eq)]
 pub struct Receiver {
     // a test node; otherwise online
     pub test: bool,
@@ -110,13 +110,14 @@ impl Address {
     pub fn same(self, other: Address) -> bool
         ensures { result ≡ same_address self other }
     {
-        (self.field.0 == other.field.0) & (self.node.0 == other.node.0)
+        self == other
     }
 
     // The address as one number, so that an address is compared with those before it at once, and these are lent, not
     // copied.
-    fn key(self) -> u32
-        ensures { (result ≡ key_of self) × Narrow self }
+    pub fn key(self) -> u32
+        ensures value { result ≡ key_of self }
+        ensures narrow { Narrow self }
     {
         self.field.0 as u32 * 65_536 + self.node.0 as u32
     }
@@ -130,13 +131,10 @@ impl Address {
         }
         let mut within = true;
         let mut seen = [0u32; Receiver::PLACES];
-        let mut i: u8 = 0;
-        while i < count {
-            let a = senders[i as usize];
+        for (i, a) in senders[..count as usize].iter().enumerate() {
             let key = a.key();
             within = within & (a.within() & fresh(&seen, key));
-            seen[i as usize] = key;
-            i += 1;
+            seen[i] = key;
         }
         within
     }
@@ -189,6 +187,26 @@ impl Heard {
     };
 }
 
+// What can be heard at another time, alive or not: a sender's record, and its words (crate words).
+pub trait Listened {
+    ghost use Rattle.state.specs.declared.Heard.{Heard};
+
+    ghost heard_as: { Self → Bool → Heard → Self };
+
+    fn with_heard(self, alive: bool, heard: Heard) -> Self
+        ensures { result ≡ heard_as self alive heard };
+}
+
+impl Listened for Sender {
+    ghost heard_as = { with_heard };
+
+    fn with_heard(mut self, alive: bool, heard: Heard) -> Sender {
+        self.alive = alive;
+        self.heard = heard;
+        self
+    }
+}
+
 impl Sender {
     pub const NONE: Sender = Sender {
         address: Address::NONE,
@@ -213,14 +231,6 @@ impl Sender {
     {
         self.open = open;
         self.message = message;
-        self
-    }
-
-    pub fn with_heard(mut self, alive: bool, heard: Heard) -> Sender
-        ensures { result ≡ with_heard self alive heard }
-    {
-        self.alive = alive;
-        self.heard = heard;
         self
     }
 
@@ -313,12 +323,10 @@ impl Receiver {
         if self.count <= place {
             return 0;
         }
-        if Receiver::PLACES <= place as usize {
+        let Some(s) = self.senders.get(place as usize) else {
             return 0;
-        }
-        let s = self.senders[place as usize];
-        let message = s.message;
-        if s.open { message.held } else { 0 }
+        };
+        if s.open { s.message.held } else { 0 }
     }
 
     // One pass over the table, for the calls that need both: whether the state is within its limits, and if it is, at
@@ -334,15 +342,11 @@ impl Receiver {
         let mut valid = self.settings_within();
         let mut at = 0;
         let mut seen = [0u32; Receiver::PLACES];
-        let mut i: u8 = 0;
-        while i < count {
-            let s = self.senders[i as usize];
-            let b = s.address;
-            let key = b.key();
+        for (i, s) in self.senders[..count as usize].iter().enumerate() {
+            let key = s.address.key();
             valid = valid & (s.within(clock) & fresh(&seen, key));
-            seen[i as usize] = key;
-            at = Look::next_place(at, i, b.same(a));
-            i += 1;
+            seen[i] = key;
+            at = Look::next_place(at, i as u8, s.address == a);
         }
         if !valid {
             return Look::OUTSIDE;
@@ -351,8 +355,9 @@ impl Receiver {
     }
 }
 
-// What one pass over the table finds.
-#[derive(Clone, Copy)]
+// What one pass over the table finds. No Option of a place: each call hands both to the rows of its refusals, which
+// would take an Option apart again.
+#[derive(Clone, Copy, PartialEq, Eq)]
 pub struct Look {
     pub valid: bool,
     pub at: u8,
@@ -384,10 +389,8 @@ pub fn fresh(seen: &[u32; Receiver::PLACES], key: u32) -> bool
     ensures { result ≡ new_key seen.now senders_most key }
 {
     let mut new = true;
-    let mut j: usize = 0;
-    while j < Receiver::PLACES {
-        new = new & (seen[j] != key);
-        j += 1;
+    for other in seen.iter() {
+        new = new & (*other != key);
     }
     new
 }

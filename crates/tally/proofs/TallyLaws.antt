@@ -3,13 +3,16 @@ use Rattle.std.specs.Prelude.{◌≡◌, refl, List, ℕ, ◌+◌, ◌≤◌, le
 use Rattle.std.proofs.Math.Path.{ap}
 use Rattle.std.proofs.Common.{arith}
 use Rattle.std.proofs.lemmas.Bool.{lt-leb}
+use Rattle.refusal.specs.Numbers.{number_of}
+use Rattle.refusal.proofs.NumbersLaws.{nine_or_more}
 use Rattle.state.specs.declared.Receiver.{Receiver}
 use Rattle.answers.specs.declared.Answer.{Answer}
 use Rattle.answers.specs.declared.Outcome.{Outcome}
 use Rattle.answers.specs.declared.Outcome.TheVariants.{Refused, Stored, Delivered}
-use Rattle.answers.specs.Told.{RefusedAs, outcome_told, message_told, OutcomeTells}
-use Rattle.rules.proofs.calls.ExactlyLaws.{message_refuses, message_given, message_tells}
-use Rattle.rules.specs.calls.Message.{refused, message_answer}
+use Rattle.answers.specs.Told.{RefusedAs, outcome_told, message_told}
+use Rattle.rules.proofs.calls.ExactlyLaws.{message_refuses, message_given}
+use Rattle.rules.proofs.calls.FirstLaws.{given_refusal}
+use Rattle.rules.specs.calls.Message.{message_rows, refused, message_answer}
 use Rattle.tally.specs.declared.Tally.{Tally}
 use Rattle.tally.specs.Tally.{most, stopping, counted, SaveACount, counted_by}
 
@@ -22,18 +25,20 @@ module _ (t : Tally) (w : Receiver) (storage packet : List ℕ) where
   pub save_a_count : (k : ℕ) → RefusedAs (message_told (message_answer w (length storage) packet)).outcome.number k → SaveACount t w storage packet
   unfolding refused
   save_a_count k e =
-      let r = message_refuses w storage packet k (message_given w storage packet k e) in
+      let given = message_given w storage packet k e in
+      let is = given_refusal (message_rows w (length storage) packet) k given in
+      let r = message_refuses w storage packet is.0 (rw is.1 given) in
       record { same_state = ap (λ (a : Answer). a.state) r.0; same_storage = r.1; one_refusal_lem = ap (λ (a : Answer). counted t a.outcome) r.0 }
 
   -- "one count of answers 0 and 1, one of refusals": which count grows is told by 01's number alone.
   pub by_number : counted t (message_answer w (length storage) packet).outcome
       ≡ counted_by t (message_told (message_answer w (length storage) packet)).outcome.number
-  by_number = by answer.outcome (message_tells w storage packet)
+  by_number = by answer.outcome
     where
-      by : (o : Outcome) → OutcomeTells o → counted t o ≡ counted_by t (outcome_told o).number
-      by (Refused k age) more = rw (lt-leb k 1 (omega (arith, more)))
-      by Stored _ = refl
-      by (Delivered v) _ = refl
+      by : (o : Outcome) → counted t o ≡ counted_by t (outcome_told o).number
+      by (Refused r age) = rw (lt-leb (number_of r) 1 (omega (arith, nine_or_more r)))
+      by Stored = refl
+      by (Delivered v) = refl
 
 -- ---- a count
 

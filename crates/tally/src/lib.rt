@@ -5,9 +5,9 @@
 // state, any storage and any octets may come.
 #![tactic(auto)]
 
-ghost use Rattle.std.specs.Prelude.{◌≡◌, ◌+◌, length};
+ghost use Rattle.std.specs.Prelude.{◌≡◌, length};
 ghost use Rattle.rules.specs.calls.Message.{message_answer, message_storage};
-ghost use Rattle.tally.specs.Tally.{stopping, counted as counted_of};
+ghost use Rattle.tally.specs.Tally.{counted as counted_of};
 
 use answers::{Answer, Outcome};
 use state::Receiver;
@@ -30,6 +30,9 @@ impl Tally {
     };
 }
 
+// A count that stops where a u32 does stops there.
+const _: () = prove!(Tally::MOST == u32::MAX);
+
 // The message call, and its answer counted.
 pub fn message(tally: &mut Tally, state: Receiver, storage: &mut [u8], packet: &[u8]) -> Answer
     ensures answer { result ≡ message_answer state (length storage.old) packet.now }
@@ -42,35 +45,20 @@ pub fn message(tally: &mut Tally, state: Receiver, storage: &mut [u8], packet: &
     a
 }
 
-// "one count of answers 0 and 1, one of refusals"
+// "one count of answers 0 and 1, one of refusals, each stopping at 4,294,967,295": where a u32 stops.
 pub fn counted(tally: Tally, outcome: Outcome) -> Tally
     ensures { result ≡ counted_of tally outcome }
 {
     let answers = tally.answers;
     let refusals = tally.refusals;
     match outcome {
-        Outcome::Refused { number: _, age: _ } => Tally {
+        Outcome::Refused { .. } => Tally {
             answers,
-            refusals: one_more(refusals),
+            refusals: refusals.saturating_add(1),
         },
-        Outcome::Stored => Tally {
-            answers: one_more(answers),
+        _ => Tally {
+            answers: answers.saturating_add(1),
             refusals,
         },
-        Outcome::Delivered(_) => Tally {
-            answers: one_more(answers),
-            refusals,
-        },
-    }
-}
-
-// "each stopping at 4,294,967,295"
-fn one_more(count: u32) -> u32
-    ensures { result ≡ stopping (count + 1) }
-{
-    if count < Tally::MOST {
-        count + 1
-    } else {
-        count
     }
 }

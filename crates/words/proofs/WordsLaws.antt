@@ -1,13 +1,10 @@
 -- Laws of a state in words: what one sender's words say, and that nothing is lost by it. Assumes nothing.
-use Rattle.std.specs.Prelude.{ℕ, suc, ◌+◌, ◌*◌, ◌/◌, ◌%◌, ◌≤◌, ◌<◌, ◌≡◌, refl, Bool, true, false, cond, ◌&&◌, List, ltb, length, set, take, drop}
-use Rattle.std.proofs.Common.{sym, ◌∙◌, append_assoc, mod-eq_of_lt, arith, get_or-drop, ltb-true, leb-true, le-leb}
+use Rattle.std.specs.Prelude.{ℕ, ◌+◌, ◌*◌, ◌/◌, ◌%◌, ◌≤◌, ◌<◌, ◌≡◌, refl, Bool, true, false, cond, ◌&&◌, List, ltb, length, take, drop}
+use Rattle.std.proofs.Common.{mod-eq_of_lt, lit<, arith, get_or-drop, ltb-true, leb-true, le-leb}
 use Rattle.std.proofs.Math.Numerals.{unary_clauses}
-use mir.Val.{bool_byte}
 use Rattle.std.proofs.Math.Dec.{leb}
-use Rattle.std.proofs.lemmas.List.Edits.{sets-eq}
 use Rattle.std.proofs.lemmas.Bool.{lt-leb}
-use Rattle.octets.specs.Run.{laid}
-use Rattle.octets.proofs.RunLaws.{laid_fits}
+use Rattle.std.proofs.lemmas.List.{get_or-take}
 use Rattle.octets.specs.Split.{and_left, and_right}
 use Rattle.header.specs.Codes.{is_data_field, is_node}
 use Rattle.state.specs.declared.Address.{Address}
@@ -17,14 +14,8 @@ use Rattle.state.specs.State.{no_heard}
 use Rattle.state.proofs.WithinLaws.{if_so, sender_facts}
 use Rattle.rules.specs.calls.Alike.{seen}
 use Rattle.words.specs.declared.Record.{Record}
-use Rattle.words.specs.Words.{place, each, word, record_in, record_words, no_record, record_at, half, flag, flag_word, address_in, address_word, sender_of, fits}
+use Rattle.words.specs.Words.{place, each, word, record_in, no_record, record_at, half, flag, address_in, address_word, sender_of, fits}
 use Rattle.words.specs.Shown.{heard_shown, shown}
-
--- ---- flags
-
-pub flag_byte : (b : Bool) → bool_byte b ≡ flag_word b
-flag_byte true = refl
-flag_byte false = refl
 
 -- ---- addresses
 
@@ -62,14 +53,11 @@ pub record_read : (l : List ℕ) (n : ℕ) → record_in (drop n l) ≡ record {
 }
 record_read l n = simp (get_or-drop, unary_clauses)
 
--- Ten words put down one by one are laid down.
-pub put_laid : (l : List ℕ) (at : ℕ) (r : Record) → at + each ≤ length l
-    → set (set (set (set (set (set (set (set (set (set l at r.address) (at + 1) r.last) (at + 2) r.«open») (at + 3) r.message) (at + 4) r.cut) (at + 5) r.map) (at + 6) r.stamp) (at + 7) r.alive) (at + 8) r.heard) (at + 9) r.timeout
-    ≡ laid l at (record_words r)
-put_laid l at r h =
-    let nine : at + 9 ≡ suc (suc (suc (suc (suc (suc (suc (suc (suc at)))))))) = omega arith in
-    simp (unary_clauses, nine)
-    (sets-eq (record_words r) l at h ∙ append_assoc (take at l) (record_words r) (drop (at + each) l) ∙ sym (laid_fits l at (record_words r) h))
+-- Ten words are enough to read them.
+pub record_taken : (l : List ℕ) → record_in (take each l) ≡ record_in l
+record_taken l =
+    let at = λ (k : ℕ) (few : k < each). get_or-take each l k 0 few in
+    rw (at 0 (lit< tt), at 1 (lit< tt), at 2 (lit< tt), at 3 (lit< tt), at 4 (lit< tt), at 5 (lit< tt), at 6 (lit< tt), at 7 (lit< tt), at 8 (lit< tt), at 9 (lit< tt))
 
 -- ---- what is looked at
 

@@ -6,17 +6,16 @@
 // is said in specs/Words.antt.
 #![tactic(auto)]
 
-ghost use Rattle.std.specs.Prelude.{◌≡◌, cond, ◌%◌, ◌≤◌, ◌<◌, set as set_at};
-ghost use Rattle.groups.specs.Groups.{number_at};
+ghost use Rattle.std.specs.Prelude.{◌≡◌, cond, ◌%◌, set as set_at};
 ghost use Rattle.octets.specs.Run.{laid};
 ghost use Rattle.state.specs.State.{no_message};
-ghost use Rattle.words.specs.Words.{place, word, half, groups_in, four_at, groups_word, message_in, flag, record_at, record_words, record_of, joined_by, heard_as, pair as pair_of, cut_word};
+ghost use Rattle.words.specs.Words.{place, word, groups_in, groups_word, message_in, flag, record_at, record_words, record_of, joined_by, heard_as, pair as pair_of, cut_word};
 ghost use Rattle.words.specs.Shown.{heard_shown, shown};
 
 use groups::{Group, Groups};
 use header::codes::{DataField, Node};
 use ring::{Number, Version};
-use state::{Address, Heard, Last, Message, Sender};
+use state::{Address, Heard, Last, Listened, Message, Sender};
 
 pub mod places;
 
@@ -31,16 +30,14 @@ pub const QUARTER: u64 = 65_536;
 pub fn at(words: &[u64], k: usize) -> u64
     ensures { result ≡ word words.now k }
 {
-    if k < words.len() { words[k] } else { 0 }
+    octets::at(words, k, 0)
 }
 
 // Puts a word down at a place, if there is one.
 pub fn set(words: &mut [u64], k: usize, x: u64)
     ensures { words.new ≡ set_at words.old k x }
 {
-    if k < words.len() {
-        words[k] = x;
-    }
+    octets::put(words, k, x);
 }
 
 // ---- the groups
@@ -50,50 +47,20 @@ pub fn groups(words: &[u64]) -> Groups
     ensures { result ≡ groups_in (word words.now 5 % 256) (word words.now 6) }
 {
     let count = (at(words, places::GROUP_COUNT) % 256) as u8;
-    let w = at(words, places::GROUPS);
-    Groups {
-        count,
-        list: [
-            Group((w % 256) as u8),
-            Group((w / 256 % 256) as u8),
-            Group((w / QUARTER % 256) as u8),
-            Group((w / 16_777_216 % 256) as u8),
-            Group((w / HALF % 256) as u8),
-            Group((w / 1_099_511_627_776 % 256) as u8),
-            Group((w / 281_474_976_710_656 % 256) as u8),
-            Group((w / 72_057_594_037_927_936) as u8),
-        ],
-    }
+    let list = at(words, places::GROUPS).to_le_bytes().map(Group);
+    Groups { count, list }
 }
 
 // The word of the groups.
 pub fn groups_word(groups: Groups) -> u64
     ensures { result ≡ groups_word groups }
 {
-    four(groups, 4) * HALF + four(groups, 0)
-}
-
-// Four of them from a place on.
-fn four(groups: Groups, k: u8) -> u64
-    requires { k ≤ 4 }
-    ensures { (result ≡ four_at groups k) × (result < half) }
-{
-    octet(groups, k + 3) * 16_777_216
-        + octet(groups, k + 2) * QUARTER
-        + octet(groups, k + 1) * 256
-        + octet(groups, k)
-}
-
-fn octet(groups: Groups, k: u8) -> u64
-    ensures { (result ≡ number_at groups k) × (result < 256) }
-{
-    let group = groups.at(k);
-    group.0 as u64
+    u64::from_le_bytes(groups.list.map(|group| group.0))
 }
 
 // ---- one sender's words
 
-#[derive(Clone, Copy)]
+#[derive(Clone, Copy, PartialEq, Eq)]
 pub struct Record {
     // data field and node
     pub address: u64,
@@ -126,20 +93,20 @@ pub fn load(words: &[u64], i: u8) -> Record
     ensures { result ≡ record_at words.now i }
 {
     let at = first_of(i);
-    if words.len() < at + places::EACH {
+    let Some(record) = words.get(at..at + places::EACH) else {
         return Record::NONE;
-    }
+    };
     Record {
-        address: words[at],
-        last: words[at + 1],
-        open: words[at + 2],
-        message: words[at + 3],
-        cut: words[at + 4],
-        map: words[at + 5],
-        stamp: words[at + 6],
-        alive: words[at + 7],
-        heard: words[at + 8],
-        timeout: words[at + 9],
+        address: record[places::ADDRESS],
+        last: record[places::LAST],
+        open: record[places::OPEN],
+        message: record[places::MESSAGE],
+        cut: record[places::CUT],
+        map: record[places::MAP],
+        stamp: record[places::STAMP],
+        alive: record[places::ALIVE],
+        heard: record[places::HEARD],
+        timeout: record[places::TIMEOUT],
     }
 }
 
@@ -149,16 +116,22 @@ pub fn put(words: &mut [u64], i: u8, r: Record)
 {
     let at = first_of(i);
     if at + places::EACH <= words.len() {
-        words[at] = r.address;
-        words[at + 1] = r.last;
-        words[at + 2] = r.open;
-        words[at + 3] = r.message;
-        words[at + 4] = r.cut;
-        words[at + 5] = r.map;
-        words[at + 6] = r.stamp;
-        words[at + 7] = r.alive;
-        words[at + 8] = r.heard;
-        words[at + 9] = r.timeout;
+        words[at..at + places::EACH].copy_from_slice(&[
+            r.address, r.last, r.open, r.message, r.cut, r.map, r.stamp, r.alive, r.heard,
+            r.timeout,
+        ]);
+    }
+}
+
+// The words with what an alive signal changes of the sender.
+impl Listened for Record {
+    ghost heard_as = { heard_as };
+
+    fn with_heard(mut self, alive: bool, h: Heard) -> Record {
+        self.alive = alive as u64;
+        self.heard = h.stamp;
+        self.timeout = h.timeout as u64;
+        self
     }
 }
 
@@ -255,16 +228,6 @@ impl Record {
         self
     }
 
-    // The words with what an alive signal changes of the sender.
-    pub fn with_heard(mut self, alive: bool, h: Heard) -> Record
-        ensures { result ≡ heard_as self alive h }
-    {
-        self.alive = alive as u64;
-        self.heard = h.stamp;
-        self.timeout = h.timeout as u64;
-        self
-    }
-
     // The words of a sender.
     pub fn of(s: Sender) -> Record
         ensures { result ≡ record_of s }
@@ -272,7 +235,7 @@ impl Record {
         let mut r = Record::NONE.joined(s);
         let address = s.address;
         let heard = s.heard;
-        r.address = address.field.0 as u64 * QUARTER + address.node.0 as u64;
+        r.address = address.key() as u64;
         r.with_heard(s.alive, heard)
     }
 }

@@ -32,20 +32,26 @@ pub fn within(words: &[u64]) -> bool
         return false;
     }
     let count = (at(words, places::COUNT) % 256) as u8;
-    senders_within(words, count)
+    if !each_sender(words, count) {
+        return false;
+    }
+    // one sender alone is no pair
+    if count <= 1 {
+        return true;
+    }
+    none_twice(words, count)
 }
 
-// The first of the first `count` places where the sender with this address stands; the count if none has it.
+// The first of the first `count` places where the sender with this address stands; the count if none has it, which is what
+// 14 asks.
 pub fn place_of(words: &[u64], count: u8, a: Address) -> u8
     ensures { result ≡ place_in words.now a count }
 {
-    let wanted = a.field.0 as u64 * QUARTER + a.node.0 as u64;
-    let mut i: u8 = 0;
-    while i < count {
+    let wanted = a.key() as u64;
+    for i in 0..count {
         if at(words, first_of(i)) == wanted {
             return i;
         }
-        i += 1;
     }
     count
 }
@@ -106,33 +112,17 @@ fn groups_within(words: &[u64]) -> bool
 
 // ---- all senders
 
-fn senders_within(words: &[u64], count: u8) -> bool
-    requires { Sized words.now count }
-    ensures { result ≡ (records_within words.now count && none_twice words.now count) }
-{
-    if !each_sender(words, count) {
-        return false;
-    }
-    // one sender alone is no pair
-    if count <= 1 {
-        return true;
-    }
-    none_twice(words, count)
-}
-
 fn each_sender(words: &[u64], count: u8) -> bool
     requires { Sized words.now count }
     ensures { result ≡ records_within words.now count }
 {
     let clock = at(words, places::CLOCK);
-    let mut i: u8 = 0;
-    while i < count {
+    for i in 0..count {
         let first = first_of(i);
         let end = first + places::EACH;
         if !sender_within(&words[first..end], clock) {
             return false;
         }
-        i += 1;
     }
     true
 }
@@ -144,14 +134,12 @@ fn none_twice(words: &[u64], count: u8) -> bool
     ensures { result ≡ none_twice words.now count }
 {
     let mut seen = [0u32; Receiver::PLACES];
-    let mut i: u8 = 0;
-    while i < count {
+    for i in 0..count {
         let key = (at(words, first_of(i)) % HALF) as u32;
         if !fresh(&seen, key) {
             return false;
         }
         seen[i as usize] = key;
-        i += 1;
     }
     true
 }

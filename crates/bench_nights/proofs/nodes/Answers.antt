@@ -1,21 +1,11 @@
--- After i turns the first i places are written. Assumes nothing.
-use Rattle.std.proofs.Common.{◌≡◌, ◌-◌, refl, add-one, arith, length-set, rules}
-use Rattle.state.specs.State.{senders_most}
-use Rattle.bench_nights.specs.Night.{nodes_to}
+-- Place by place. Assumes nothing.
+use Rattle.std.proofs.Common.{ℕ, ◌+◌, rules}
+use Rattle.std.proofs.lemmas.List.FromFn.{fill_by_all}
+use Rattle.state.specs.State.{senders_most, no_address}
+use Rattle.bench_nights.specs.Night.{node_of}
 use Rattle.bench_nights.proofs.nodes.Goals as goal
-
-pub loop-i-init : goal.loop-i-init
-unfolding nodes_to
-loop-i-init c = (search rules, search rules, refl)
-
-pub loop-i-preserved : goal.loop-i-preserved
-unfolding nodes_to
-loop-i-preserved c =
-    let l = c.loop-i in
-    (omega arith, simp length-set l.invariant.1, rw (add-one l.i, l.invariant.2))
 
 pub returns : goal.returns
 returns c =
-    let l = c.loop-i in
-    let e : l.i ≡ senders_most = omega arith in
-    rw e at l.invariant.2
+    let made = c.from_fn.ensures.items in
+    fill_by_all (λ (i : ℕ). node_of (i + 1)) c.from_fn.result senders_most no_address made.long (λ i q. let z = (made.at i no_address q).2 in search (rules, z))

@@ -8,10 +8,10 @@ use Rattle.board_setup.proofs.adp_setup.Goals as goal
 
 pub returns-then-state-ne-WORDS : goal.returns-then-state-ne-WORDS
 unfolding setup_for setup_words
-returns-then-state-ne-WORDS c = record { answer = rw (ne_eqb _ _ c.if-state-ne-WORDS.true); left = rw (ne_eqb _ _ c.if-state-ne-WORDS.true) }
+returns-then-state-ne-WORDS c = record { answer = c.number.ensures ∙ rw (ne_eqb _ _ c.if-state-ne-WORDS.true); left = rw (ne_eqb _ _ c.if-state-ne-WORDS.true) }
 
 pub returns : goal.returns
 unfolding setup_for setup_words
 returns c =
     let many = eq-eqb (length c.args.state.now) words_most c.if-state-ne-WORDS.false in
-    let made = c.setup-started.ensures in record { answer = c.number.ensures ∙ rw (many, made); left = c.write.ensures ∙ rw (many, made) }
+    let made = c.setup-started.ensures in record { answer = c.number_in.ensures ∙ rw (many, made); left = c.write.ensures ∙ rw (many, made) }

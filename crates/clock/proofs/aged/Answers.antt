@@ -8,8 +8,8 @@ returns c =
     simp (
       c.drops-drop.ensures,
       c.dies-die.ensures,
-      c.message_after-message.ensures,
-      c.heard_after-heard.ensures,
+      c.unless-message.ensures,
+      c.unless-heard.ensures,
       c.with_message-left.ensures,
       c.with_heard.ensures,
     )

@@ -1,5 +1,4 @@
 -- After i turns the first i senders have aged. Assumes nothing.
-use Prim.Native.Nat.{◌-◌}
 use mathlib.Core.Path.{refl, sym, ap, ◌∙◌}
 use native.Mathlib.Omega.{arith}
 use Rattle.rules.specs.calls.Clock.{drops, dies, aged_senders, map_where, not_ticked}
@@ -25,29 +24,28 @@ unfolding map_where aged_senders
 loop-i-init c =
     let a = c.args in
     let v = sym c.within.ensures ∙ c.if-not-within.false in
-    (omega arith, valid_count a.state v, refl, refl, refl)
+    (valid_count a.state v, refl, refl, refl)
 
 pub with_place-dropped-requires : goal.with_place-dropped-requires
 with_place-dropped-requires c =
     let l = c.loop-i in
-    (omega arith, rw l.invariant.2 (map_below _ _ l.i))
+    (omega arith, rw l.invariant.1 (map_below _ _ l.i))
 
 pub with_place-dead-requires : goal.with_place-dead-requires
 with_place-dead-requires c =
     let l = c.loop-i in
-    (omega arith, rw l.invariant.3 (map_below _ _ l.i))
+    (omega arith, rw l.invariant.2 (map_below _ _ l.i))
 
 pub loop-i-preserved : goal.loop-i-preserved
 loop-i-preserved c =
     let l = c.loop-i in
     let a = c.args in
     let w = a.state in
-    let m = ap (λ (v : Receiver). v.senders) l.invariant.4 in (
+    let m = ap (λ (v : Receiver). v.senders) l.invariant.3 in (
       omega arith,
-      omega arith,
-      c.with_place-dropped.ensures ∙ map_again w.t a.ms (drops w.t a.ms) w.senders _ l.i _ _ m l.invariant.2 c.drops.ensures,
-      c.with_place-dead.ensures ∙ map_again w.t a.ms (dies a.ms) w.senders _ l.i _ _ m l.invariant.3 c.dies.ensures,
-      state_more w l.state w.t a.ms l.i _ l.invariant.4 c.aged-next.ensures,
+      c.with_place-dropped.ensures ∙ map_again w.t a.ms (drops w.t a.ms) w.senders _ l.i _ _ m l.invariant.1 c.drops.ensures,
+      c.with_place-dead.ensures ∙ map_again w.t a.ms (dies a.ms) w.senders _ l.i _ _ m l.invariant.2 c.dies.ensures,
+      state_more w l.state w.t a.ms l.i _ l.invariant.3 c.aged-next.ensures,
     )
 
 pub returns : goal.returns
@@ -55,4 +53,4 @@ returns c =
     let l = c.loop-i in
     let a = c.args in
     let v = sym c.within.ensures ∙ c.if-not-within.false in
-    ticked_is a.state l.state a.ms l.i _ _ (omega arith) l.invariant.4 l.invariant.2 l.invariant.3 ∙ clock_on a.state a.ms v c.if-ms-state.false
+    ticked_is a.state l.state a.ms l.i _ _ (omega arith) l.invariant.3 l.invariant.1 l.invariant.2 ∙ clock_on a.state a.ms v c.if-ms-state.false

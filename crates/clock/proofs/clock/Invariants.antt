@@ -1,5 +1,5 @@
 -- After i turns the first i senders have aged. Assumes nothing.
-use Prim.Native.Nat.{◌≤◌, ◌-◌}
+use Prim.Native.Nat.{◌≤◌}
 use mathlib.Core.Path.{◌≡◌}
 use Rattle.rules.specs.calls.Clock.{drops, dies, aged_senders, map_where}
 use Rattle.state.specs.State.{senders_most, with_senders}
@@ -7,8 +7,5 @@ use Rattle.clock.proofs.clock.Given as goal
 
 abbrev pub invariant-loop-i : goal.invariant-loop-i
 invariant-loop-i l =
-    (l.i ≤ l.count) × (l.count ≤ senders_most) × (l.dropped ≡ map_where (drops l.t l.ms) l.initial.state.senders l.i) × (l.dead ≡ map_where (dies l.ms) l.initial.state.senders l.i)
+    (l.count ≤ senders_most) × (l.dropped ≡ map_where (drops l.t l.ms) l.initial.state.senders l.i) × (l.dead ≡ map_where (dies l.ms) l.initial.state.senders l.i)
     × (l.state ≡ with_senders l.initial.state (aged_senders l.t l.ms l.initial.state.senders l.i))
-
-abbrev pub decreases-loop-i : goal.decreases-loop-i
-decreases-loop-i l = l.count - l.i

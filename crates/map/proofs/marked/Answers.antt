@@ -2,7 +2,7 @@
 use mathlib.Core.Path.{sym, ◌∙◌}
 use native.Mathlib.Omega.{arith}
 use borrow.Author.Tests.{le-leb, lt-leb}
-use Rattle.map.specs.Map.{marked, holds}
+use Rattle.map.specs.Map.{marked}
 use Rattle.map.proofs.MapLaws.{holds_not}
 use Rattle.map.proofs.marked.Goals as goal
 

@@ -1,6 +1,7 @@
 -- Each return has the verdict that the rules before it lead to. Assumes nothing.
-use mathlib.Core.Path.{◌∙◌}
-use borrow.Author.Tests.{eq-eqb, ne_eqb}
+use Rattle.std.proofs.Common.{sym, ◌∙◌}
+use Rattle.std.proofs.Common.{eq-eqb}
+use Rattle.std.proofs.lemmas.Bool.{ne_eqb}
 use Rattle.ring.specs.Check.{check}
 use Rattle.ring.proofs.CheckLaws.{rule4_by_distance}
 use Rattle.ring.proofs.RingLaws.{remainder_bound}
@@ -14,9 +15,9 @@ pub returns-then-rv-eq0 : goal.returns-then-rv-eq0
 unfolding check
 returns-then-rv-eq0 c = simp (c.if-v-s.false, eq-eqb _ _ c.if-rv-eq0.true)
 
-pub returns-then-v-rv : goal.returns-then-v-rv
+pub returns-then-ne : goal.returns-then-ne
 unfolding check
-returns-then-v-rv c = simp (c.if-v-s.false, ne_eqb _ _ c.if-rv-eq0.false, ne_eqb _ _ c.if-v-rv.true)
+returns-then-ne c = simp (c.if-v-s.false, ne_eqb _ _ c.if-rv-eq0.false, sym c.ne.ensures ∙ c.if-ne.true)
 
 pub by_distance-requires : goal.by_distance-requires
 by_distance-requires c = rw c.back.ensures (remainder_bound _ _)
@@ -25,4 +26,4 @@ pub returns : goal.returns
 unfolding check
 returns c =
     c.by_distance.ensures ∙ rule4_by_distance _ _ _ _ c.back.ensures
-    ∙ simp (c.if-v-s.false, ne_eqb _ _ c.if-rv-eq0.false, eq-eqb _ _ c.if-v-rv.false)
+    ∙ simp (c.if-v-s.false, ne_eqb _ _ c.if-rv-eq0.false, sym c.ne.ensures ∙ c.if-ne.false)

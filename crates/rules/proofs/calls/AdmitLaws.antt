@@ -1,6 +1,6 @@
 -- Laws of admission: what is known where no number of 15 to 20 applies. Assumes nothing.
-use Rattle.std.specs.Prelude.{◌≡◌, refl, ◌≢◌, Bool, true, false, not, cond, ◌&&◌, ◌||◌, ℕ, suc, ◌+◌, ◌-◌, ◌^◌, ◌≤◌, ◌<◌, eqb}
-use Rattle.std.proofs.Common.{sym, ap, ◌∙◌, ⊎_elim, arith, eq-eqb, ne_eqb, eqb-true, lt-ltb, le-ltb}
+use Rattle.std.specs.Prelude.{◌≡◌, refl, ◌≢◌, Bool, true, false, not, cond, ◌&&◌, ◌||◌, ℕ, suc, ◌+◌, ◌-◌, ◌^◌, ◌≤◌, ◌<◌, eqb, None, Result, Ok, Err}
+use Rattle.std.proofs.Common.{sym, ap, ◌∙◌, ⊎_elim, arith, eq-eqb, ne_eqb, lt-ltb, le-ltb}
 use Rattle.std.specs.Int.Count.{ones}
 use Rattle.std.proofs.lemmas.Nat.{ones-le}
 use Rattle.std.proofs.lemmas.Bool.{not-false}
@@ -19,9 +19,12 @@ use Rattle.answers.specs.declared.Admission.{Admission}
 use Rattle.answers.specs.declared.Dropped.{Dropped}
 use Rattle.answers.specs.declared.Outcome.{Outcome}
 use Rattle.rules.specs.calls.Admit.{same_version, rejoins, same_cut, verdict_of, sender_rows, map_before, map_after, one_more, kept_after, fills, none_dropped, dropped_by, admitted, not_admitted, admission}
-use Rattle.answers.specs.Told.{refused_number, refusal}
-use Rattle.rules.specs.calls.First.{first}
-use Rattle.rules.proofs.calls.FirstLaws.{first_none}
+use Rattle.std.specs.Result.{result_err}
+use Rattle.refusal.specs.declared.Refusal.{Refusal}
+use Rattle.refusal.specs.Numbers.{number_in}
+use Rattle.answers.specs.Told.{refused_by, refused_number, refusal}
+use Rattle.rules.specs.calls.First.{checked, first, by_check}
+use Rattle.rules.proofs.calls.FirstLaws.{first_is, first_none}
 
 -- An admitted PDU has a possible cut, is no repeat, is not older than the open message, has its cut if it belongs to
 -- it, and is a new piece of it.
@@ -39,12 +42,12 @@ if_and false b e f = absurd (never_both f refl)
 pub admitted_facts : (test : Bool) (n1 : ℕ) (s : Sender) (h : Head) → first (sender_rows test n1 s h) ≡ 0 → Admitted n1 s h
 unfolding sender_rows
 admitted_facts test n1 s h e =
-    let r15 = first_none 15 (eqb h.given.mode 1 && not test) _ (λ z. omega arith) e in
-    let r16 = first_none 16 (not (possible h.cut)) _ (λ z. omega arith) r15.1 in
-    let r17 = first_none 17 (is_repeat (verdict_of n1 s h)) _ (λ z. omega arith) r16.1 in
-    let r18 = first_none 18 _ _ (λ z. omega arith) r17.1 in
-    let r19 = first_none 19 (rejoins s h && not (same_cut s.message h)) _ (λ z. omega arith) r18.1 in
-    let r20 = first_none 20 (rejoins s h && holds s.message.map h.cut.cbn) _ (λ z. omega arith) r19.1 in
+    let r15 = first_none _ (eqb h.given.mode 1 && not test) _ e in
+    let r16 = first_none _ (not (possible h.cut)) _ r15.1 in
+    let r17 = first_none _ (is_repeat (verdict_of n1 s h)) _ r16.1 in
+    let r18 = first_none _ _ _ r17.1 in
+    let r19 = first_none _ (rejoins s h && not (same_cut s.message h)) _ r18.1 in
+    let r20 = first_none _ (rejoins s h && holds s.message.map h.cut.cbn) _ r19.1 in
     record {
       cut_possible = not-false (possible h.cut) r16.0;
       no_repeat = r17.0;
@@ -117,33 +120,49 @@ drops_or_joins n1 s h a mine its = by s.«open» (same_version s h) a.not_older 
     by true true e (is_newer n f g) = rw (f, ne_eqb s.message.number.0 h.given.number.0 (λ z. n (sym z)))
     by true true e (is_older n f g) = absurd (never_both g e)
 
--- ---- the admission by its number
+-- ---- the admission, by what is refused
 
-pub admission_yes : (test : Bool) (n1 clock : ℕ) (s : Sender) (h : Head) → first (sender_rows test n1 s h) ≡ 0 → admission test n1 clock s h ≡ admitted n1 clock s h
+pub admission_yes : (test : Bool) (n1 clock : ℕ) (s : Sender) (h : Head) → checked (sender_rows test n1 s h) ≡ Ok tt → admission test n1 clock s h ≡ admitted n1 clock s h
 unfolding admission
-admission_yes test n1 clock s h e = rw (eq-eqb (first (sender_rows test n1 s h)) 0 e)
+admission_yes test n1 clock s h e = rw e
 
-pub admission_no : (test : Bool) (n1 clock : ℕ) (s : Sender) (h : Head) (k : ℕ) → k ≡ first (sender_rows test n1 s h) → (k ≡ 0 → ⊥)
-    → not_admitted s (refusal k (verdict_of n1 s h)) ≡ admission test n1 clock s h
+pub admission_no : (test : Bool) (n1 clock : ℕ) (s : Sender) (h : Head) (r : Refusal) → checked (sender_rows test n1 s h) ≡ Err r
+    → not_admitted s (refusal r (verdict_of n1 s h)) ≡ admission test n1 clock s h
 unfolding admission
-admission_no test n1 clock s h k e ne = rw (e, ne_eqb (first (sender_rows test n1 s h)) 0 (λ z. ne (e ∙ z)))
+admission_no test n1 clock s h r e = rw e
 
--- The number that the outcome holds is that of the first row that applies.
-pub admitted_zero : (n1 clock : ℕ) (s : Sender) (h : Head) → refused_number (admitted n1 clock s h).outcome ≡ 0
+-- The outcome is refused as the first row that applies says.
+admitted_none : (n1 clock : ℕ) (s : Sender) (h : Head) → refused_by (admitted n1 clock s h).outcome ≡ None
+unfolding admitted
+admitted_none n1 clock s h = cond_case (λ (o : Outcome). refused_by o ≡ None) (fills s h) _ _ (λ e. refl) (λ e. refl)
+
+pub admission_by : (test : Bool) (n1 clock : ℕ) (s : Sender) (h : Head)
+    → refused_by (admission test n1 clock s h).outcome ≡ result_err (checked (sender_rows test n1 s h))
+unfolding admission not_admitted
+admission_by test n1 clock s h = by (checked (sender_rows test n1 s h))
+  where
+    by : (x : Result (Unit {0}) Refusal)
+        → refused_by (by_check {A = Admission} x (admitted n1 clock s h) (λ r. not_admitted s (refusal r (verdict_of n1 s h)))).outcome ≡ result_err x
+    by (Ok y) = admitted_none n1 clock s h
+    by (Err r) = refl
+
+admitted_zero : (n1 clock : ℕ) (s : Sender) (h : Head) → refused_number (admitted n1 clock s h).outcome ≡ 0
 unfolding admitted
 admitted_zero n1 clock s h = cond_case (λ (o : Outcome). refused_number o ≡ 0) (fills s h) _ _ (λ e. refl) (λ e. refl)
 
+-- Its number is that of the first row that applies.
 pub admission_number : (test : Bool) (n1 clock : ℕ) (s : Sender) (h : Head)
     → refused_number (admission test n1 clock s h).outcome ≡ first (sender_rows test n1 s h)
 unfolding admission not_admitted
-admission_number test n1 clock s h = by (first (sender_rows test n1 s h)) (eqb (first (sender_rows test n1 s h)) 0) refl
+admission_number test n1 clock s h = by (checked (sender_rows test n1 s h)) ∙ sym (first_is (sender_rows test n1 s h))
   where
-    by : (k : ℕ) (b : Bool) → eqb k 0 ≡ b → refused_number (cond {A = Admission} b (admitted n1 clock s h) (not_admitted s (refusal k (verdict_of n1 s h)))).outcome ≡ k
-    by k true e = admitted_zero n1 clock s h ∙ sym (eqb-true k 0 e)
-    by k false e = refl
+    by : (x : Result (Unit {0}) Refusal)
+        → refused_number (by_check {A = Admission} x (admitted n1 clock s h) (λ r. not_admitted s (refusal r (verdict_of n1 s h)))).outcome ≡ number_in x
+    by (Ok y) = admitted_zero n1 clock s h
+    by (Err r) = refl
 
 -- With a refusal the outcome is that refusal.
-pub admission_refused : (test : Bool) (n1 clock : ℕ) (s : Sender) (h : Head) (k : ℕ) → k ≡ first (sender_rows test n1 s h) → k ≢ 0
-    → (admission test n1 clock s h).outcome ≡ refusal k (verdict_of n1 s h)
+pub admission_refused : (test : Bool) (n1 clock : ℕ) (s : Sender) (h : Head) (r : Refusal) → checked (sender_rows test n1 s h) ≡ Err r
+    → (admission test n1 clock s h).outcome ≡ refusal r (verdict_of n1 s h)
 unfolding not_admitted
-admission_refused test n1 clock s h k e ne = sym (ap (λ (a : Admission). a.outcome) (admission_no test n1 clock s h k e ne))
+admission_refused test n1 clock s h r e = sym (ap (λ (a : Admission). a.outcome) (admission_no test n1 clock s h r e))

@@ -1,11 +1,13 @@
 -- "… and never looked at": states that are alike in what is looked at get the same answers and stay alike. Assumes
 -- nothing.
-use Rattle.std.specs.Prelude.{◌≡◌, ◌≢◌, Bool, true, false, not, cond, List, eqb, ltb, length, get_or, set}
+use Rattle.std.specs.Prelude.{◌≡◌, ◌≢◌, Bool, true, false, not, cond, List, ltb, length, get_or, set, Option, Some, Ok}
 use Rattle.std.proofs.Math.Path.{refl, sym, ap}
-use Rattle.std.proofs.Common.{◌∙◌, subst, ⊎_elim, arith, get_or-set_same, get_or-set_other, ltb-true, eqb-true}
+use Rattle.std.proofs.Common.{◌∙◌, subst, ⊎_elim, arith, get_or-set_same, get_or-set_other, ltb-true}
 use Prim.Native.Nat.{ℕ, zero, suc, ◌≤◌, ◌<◌}
 use Rattle.std.proofs.lemmas.Bool.{not-false}
 use Rattle.octets.specs.Split.{eq_or_ne, true_or_false}
+use Rattle.refusal.specs.declared.Refusal.{Refusal}
+use Rattle.refusal.specs.Numbers.{number_of}
 use Rattle.header.specs.declared.Head.{Head}
 use Rattle.groups.specs.declared.Groups.{Groups}
 use Rattle.groups.specs.Groups.{kept}
@@ -16,8 +18,7 @@ use Rattle.map.specs.Map.{lowest_missing}
 use Rattle.state.specs.declared.Message.{Message}
 use Rattle.state.specs.declared.Sender.{Sender}
 use Rattle.state.specs.declared.Receiver.{Receiver}
-use Rattle.answers.specs.declared.Missing.{Missing}
-use Rattle.answers.specs.declared.Missing.TheVariants.{Piece}
+use Rattle.answers.specs.declared.MissingPiece.{MissingPiece}
 use Rattle.answers.specs.declared.Outcome.{Outcome}
 use Rattle.answers.specs.declared.Outcome.TheVariants.{Refused}
 use Rattle.answers.specs.Told.{refusal}
@@ -29,8 +30,8 @@ use Rattle.rules.specs.calls.Clock.{clock_rows, drops, dies, aged, aged_senders,
 use Rattle.rules.proofs.calls.AliveLaws.{alive_facts}
 use Rattle.rules.proofs.calls.QuestionLaws.{first_holds}
 use Rattle.rules.proofs.calls.ClockLaws.{aged_done}
-use Rattle.rules.specs.calls.First.{first}
-use Rattle.rules.proofs.calls.FirstLaws.{first_none, first_behind, numbered, without, behind_without}
+use Rattle.rules.specs.calls.First.{checked, first}
+use Rattle.rules.proofs.calls.FirstLaws.{check_two, first_none, checked_behind, without, behind_without}
 use Rattle.state.specs.Limits.{sender_within, address_at, senders_within, settings_of, valid}
 use Rattle.state.proofs.LimitsLaws.{new_ext}
 use Rattle.state.specs.Table.{found}
@@ -99,7 +100,7 @@ module _ (l m : List Sender) where
 -- ---- what is known where no number applies
 
 clock_passed : (w : Receiver) (now : ℕ) → first (clock_rows w now) ≡ 0 → valid w ≡ true
-clock_passed w now e = not-false (valid w) (first_none 9 (not (valid w)) _ (λ z. omega arith) e).0
+clock_passed w now e = not-false (valid w) (first_none _ (not (valid w)) _ e).0
 
 -- ---- "never looked at"
 
@@ -146,15 +147,15 @@ module _ (w : Receiver) (g : Groups) (same-groups : kept w.groups ≡ kept g) (m
 
   -- The message call. The sender's numbers are tried only where the sender is registered.
 
-  same_number : (room : ℕ) (packet : List ℕ) → message_number w room packet ≡ message_number other room packet
+  same_check : (room : ℕ) (packet : List ℕ) → checked (message_rows w room packet) ≡ checked (message_rows other room packet)
   unfolding message_rows
-  same_number room packet =
+  same_check room packet =
       let h = head_of packet in
       let rows = packet_rows (valid w) w.count (found w h) room packet h in
       let late : first rows ≡ 0 → sender_rows w.test w.n1 (sender_at w (found w h)) h ≡ sender_rows w.test w.n1 (sender_at other (found w h)) h
       = λ z. same_sender (λ s. sender_rows w.test w.n1 s h) (looks_rows h w.test w.n1) (found w h)
       (passed_facts (valid w) w.count (found w h) room packet h z).registered in
-      rw (← same_found h, ← same_valid) (first_behind rows (unfold numbered in refl) _ _ late)
+      rw (← same_found h, ← same_valid) (checked_behind rows _ _ late)
 
   alike_taken : (i : ℕ) (h : Head) → valid w ≡ true → i < w.count → AlikeAnswer (taken w i (sender_at w i) h) (taken other i (sender_at other i) h)
   unfolding taken admitted
@@ -169,16 +170,15 @@ module _ (w : Receiver) (g : Groups) (same-groups : kept w.groups ≡ kept g) (m
       }
 
   -- What the check says is looked at with 17 alone, where the sender is registered too.
-  same_refusal : (room : ℕ) (packet : List ℕ)
+  same_refusal : (room : ℕ) (packet : List ℕ) (r : Refusal) → message_number w room packet ≡ number_of r
       → let h = head_of packet in
-      let k = message_number w room packet in
-      refusal k (verdict_of w.n1 (sender_at w (found w h)) h) ≡ refusal k (verdict_of w.n1 (sender_at other (found w h)) h)
+      refusal r (verdict_of w.n1 (sender_at w (found w h)) h) ≡ refusal r (verdict_of w.n1 (sender_at other (found w h)) h)
   unfolding message_rows
-  same_refusal room packet =
+  same_refusal room packet r given =
       let h = head_of packet in
       let rows = packet_rows (valid w) w.count (found w h) room packet h in
-      ap (Refused (message_number w room packet)) (age_same (message_number w room packet) _ _ (λ e.
-      let none = behind_without 17 rows (sender_rows w.test w.n1 (sender_at w (found w h)) h) (λ z. omega (arith, z)) (unfold numbered in refl) (unfold without in refl) e in
+      ap (Refused r) (age_same (number_of r) _ _ (λ e.
+      let none = behind_without 17 rows (sender_rows w.test w.n1 (sender_at w (found w h)) h) (λ z. omega (arith, z)) (unfold without in refl) (given ∙ e) in
       same_sender (λ s. verdict_of w.n1 s h) (looks_verdict h w.n1) (found w h) (passed_facts (valid w) w.count (found w h) room packet h none).registered))
 
   alike_answer : (room : ℕ) (packet : List ℕ) → AlikeAnswer (message_answer w room packet) (message_answer other room packet)
@@ -186,17 +186,15 @@ module _ (w : Receiver) (g : Groups) (same-groups : kept w.groups ≡ kept g) (m
   alike_answer room packet =
       let h = head_of packet in
       let i = found w h in
-      let k = message_number w room packet in
-      let mine = refusal k (verdict_of w.n1 (sender_at w i) h) in
-      let its = refusal k (verdict_of w.n1 (sender_at other i) h) in
-      rw (← same_number room packet, ← same_found h)
-      (cond_two AlikeAnswer (eqb k 0) (taken w i (sender_at w i) h) (refused w mine) (taken other i (sender_at other i) h) (refused other its)
-      (λ e. let p = (taken_facts w room packet (eqb-true k 0 e)).0 in alike_taken i h p.is_valid p.registered)
-      (λ e. record { same_outcome = same_refusal room packet; same_held = refl; same_dropped = refl; same_lies = refl; alike_state = alike_tables a }))
+      rw (← same_check room packet, ← same_found h)
+      (check_two AlikeAnswer (message_rows w room packet) (taken w i (sender_at w i) h) (taken other i (sender_at other i) h)
+      (λ r. refused w (refusal r (verdict_of w.n1 (sender_at w i) h))) (λ r. refused other (refusal r (verdict_of w.n1 (sender_at other i) h)))
+      (λ e. let p = (taken_facts w room packet e).0 in alike_taken i h p.is_valid p.registered)
+      (λ r e. record { same_outcome = same_refusal room packet r e; same_held = refl; same_dropped = refl; same_lies = refl; alike_state = alike_tables a }))
 
   same_storage : (storage packet : List ℕ) → message_storage w storage packet ≡ message_storage other storage packet
   unfolding message_storage
-  same_storage storage packet = rw (same_number (length storage) packet, same_found (head_of packet))
+  same_storage storage packet = rw (same_check (length storage) packet, same_found (head_of packet))
 
   -- The alive call.
 
@@ -209,29 +207,27 @@ module _ (w : Receiver) (g : Groups) (same-groups : kept w.groups ≡ kept g) (m
   alike_noted packet =
       let i = found w (head_of packet) in
       let b = body_of packet in
-      let k = first (alive_rows w packet) in
       rw (← same_signal packet, ← same_found (head_of packet))
-      (cond_two AlikeNoted (eqb k 0) (noted w i b) (not_noted w k) (noted other i b) (not_noted other k)
-      (λ e. let p = alive_facts w packet (eqb-true k 0 e) in
+      (check_two AlikeNoted (alive_rows w packet) (noted w i b) (noted other i b) (not_noted w) (not_noted other)
+      (λ e. let p = alive_facts w packet e in
       record { same_call = refl; alike_state = alike_changed (λ s. heard_by w.clock s b) (changes_heard w.clock b) i p.is_valid p.registered })
-      (λ e. record { same_call = refl; alike_state = alike_tables a }))
+      (λ r e. record { same_call = refl; alike_state = alike_tables a }))
 
   -- The clock call.
 
   alike_ticked : (now : ℕ) → AlikeTicked (clock_answer w now) (clock_answer other now)
   unfolding clock_answer ticked not_ticked
   alike_ticked now =
-      let k = first (clock_rows w now) in
       rw (← same_valid)
-      (cond_two AlikeTicked (eqb k 0) (ticked w now) (not_ticked w k) (ticked other now) (not_ticked other k)
-      (λ e. let fits = room_for (clock_passed w now (eqb-true k 0 e)) in
+      (check_two AlikeTicked (clock_rows w now) (ticked w now) (ticked other now) (not_ticked w) (not_ticked other)
+      (λ e. let fits = room_for (clock_passed w now e) in
       record {
         same_call = refl;
         same_dropped = same_map w.senders m (drops w.t now) (looks_drops w.t now) w.count a;
         same_dead = same_map w.senders m (dies now) (looks_dies now) w.count a;
         alike_state = alike_tables (alike_aged w.senders m w.t now w.count fits.0 fits.1 a);
       })
-      (λ e. record { same_call = refl; same_dropped = refl; same_dead = refl; alike_state = alike_tables a }))
+      (λ r e. record { same_call = refl; same_dropped = refl; same_dead = refl; alike_state = alike_tables a }))
 
   -- The question. The sender that it finds has a message open, and the record of that one is looked at.
 
@@ -244,11 +240,11 @@ module _ (w : Receiver) (g : Groups) (same-groups : kept w.groups ≡ kept g) (m
   same_missing =
       let i = first_open w in
       rw (← same_first w.senders m (λ s. s.«open») looks_open w.count a)
-      (cond_two (λ (x y : Missing). x ≡ y) (ltb i w.count) _ _ _ _
+      (ap Ok (cond_two (λ (x y : Option MissingPiece). x ≡ y) (ltb i w.count) _ _ _ _
       (λ e. let h : i < w.count = ltb-true i w.count e in
       let is_open = first_holds (λ s. s.«open») w.senders w.count h in
-      ap (λ (r : Message). Piece i (lowest_missing r.map)) (same_message_lem i h is_open))
-      (λ e. refl))
+      ap (λ (r : Message). Some (record { sender = i; piece = lowest_missing r.map })) (same_message_lem i h is_open))
+      (λ e. refl)))
 
   same_question : question_answer w ≡ question_answer other
   unfolding question_answer

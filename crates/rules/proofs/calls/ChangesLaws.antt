@@ -1,12 +1,12 @@
 -- What a message call changes: "A piece of several changes exactly its p octets in its sender's area.", "A message of
 -- one piece is delivered at once and storage is untouched.", and of the state no other sender's record. Assumes
 -- nothing.
-use Rattle.std.specs.Prelude.{◌≡◌, refl, ◌≢◌, ◌⊎◌, List, ℕ, ◌+◌, ◌*◌, ◌≤◌, ◌<◌, eqb, length}
+use Rattle.std.specs.Prelude.{◌≡◌, refl, ◌≢◌, ◌⊎◌, List, ℕ, ◌+◌, ◌*◌, ◌≤◌, ◌<◌, length}
 use Rattle.std.proofs.Common.{◌∙◌, inl, inr, ⊎_elim, arith, get_or-set_other, eq-eqb, ne_eqb}
 use Rattle.octets.specs.Number.{octet}
 use Rattle.octets.specs.Run.{run, laid}
 use Rattle.octets.proofs.RunLaws.{laid_in, laid_out, length_run, octet_run}
-use Rattle.octets.specs.Split.{lt_or_le, eq_or_ne, cond_case}
+use Rattle.octets.specs.Split.{lt_or_le, eq_or_ne}
 use Rattle.header.specs.declared.Head.{Head}
 use Rattle.header.specs.Head.{head_of}
 use Rattle.header.specs.Places.{header_size}
@@ -17,8 +17,8 @@ use Rattle.state.specs.declared.Receiver.{Receiver}
 use Rattle.answers.specs.declared.Answer.{Answer}
 use Rattle.answers.specs.declared.Noted.{Noted}
 use Rattle.rules.specs.calls.Alive.{alive_rows, alive_answer}
-use Rattle.rules.specs.calls.First.{first}
-use Rattle.rules.specs.calls.Message.{area, message_number, storage_after, with_sender, taken, refused, message_answer, message_storage}
+use Rattle.rules.proofs.calls.FirstLaws.{checked_none, check_case}
+use Rattle.rules.specs.calls.Message.{area, message_rows, message_number, storage_after, with_sender, taken, refused, message_answer, message_storage}
 use Rattle.state.specs.Table.{found}
 use Rattle.rules.proofs.calls.MessageLaws.{taken_facts}
 use Rattle.state.specs.State.{no_sender, sender_at, settings_from}
@@ -43,7 +43,7 @@ module _ (w : Receiver) (storage packet : List ℕ) (none : message_number w (le
 
   after_is : message_storage w storage packet ≡ storage_after storage i h packet
   unfolding message_storage
-  after_is = rw none
+  after_is = rw (checked_none (message_rows w (length storage) packet) none)
 
   -- "A message of one piece is delivered at once and storage is untouched."
   pub one_untouched : h.cut.tbn ≡ 1 → message_storage w storage packet ≡ storage
@@ -115,11 +115,11 @@ pub message_only : (w : Receiver) (room : ℕ) (packet : List ℕ) → OnlySende
 unfolding message_answer taken refused
 message_only w room packet =
     let i = found w (head_of packet) in
-    cond_case (λ (a : Answer). OnlySender i w a.state) (eqb (message_number w room packet) 0) _ _ (λ e. only_one i w _) (λ e. only_none i w)
+    check_case (λ (a : Answer). OnlySender i w a.state) (message_rows w room packet) _ _ (λ e. only_one i w _) (λ r e. only_none i w)
 
 -- nor does an alive call.
 pub alive_only : (w : Receiver) (packet : List ℕ) → OnlySender (found w (head_of packet)) w (alive_answer w packet).state
 unfolding alive_answer
 alive_only w packet =
     let i = found w (head_of packet) in
-    cond_case (λ (a : Noted). OnlySender i w a.state) (eqb (first (alive_rows w packet)) 0) _ _ (λ e. only_one i w _) (λ e. only_none i w)
+    check_case (λ (a : Noted). OnlySender i w a.state) (alive_rows w packet) _ _ (λ e. only_one i w _) (λ r e. only_none i w)

@@ -1,20 +1,20 @@
 -- Laws of the clock call. Assumes nothing.
-use Rattle.std.specs.Prelude.{◌≡◌, refl, ◌≢◌, Bool, true, false, not, cond, ◌||◌, ℕ, zero, suc, ◌+◌, ◌*◌, ◌%◌, ◌^◌, ◌≤◌, ◌<◌, length, get_or, set}
+use Rattle.std.specs.Prelude.{◌≡◌, refl, ◌≢◌, Bool, true, false, not, cond, ◌||◌, ℕ, zero, suc, ◌+◌, ◌*◌, ◌%◌, ◌^◌, ◌≤◌, ◌<◌, length, get_or, set, Ok}
 use Rattle.std.proofs.Common.{sym, ap, ◌∙◌, mod-eq_of_lt, one-mul, add-zero, add-one, arith, pow_mono, get_or-set_other}
 use Rattle.std.proofs.Math.Logic.{⊎_elim}
 use mathlib.Core.List.{List, [], ◌∷◌}
 use Rattle.std.proofs.Math.Dec.{ltb}
 use Rattle.std.proofs.Math.Pow.{pow-lt}
 use Rattle.octets.specs.Split.{true_or_false, cond_case, eq_or_ne}
+use Rattle.refusal.specs.declared.Refusal.TheVariants as refusals
 use Rattle.map.specs.Map.{bit}
 use Rattle.map.proofs.MapLaws.{bit_set, bit_keep, bit_above}
 use Rattle.state.specs.declared.Sender.{Sender}
 use Rattle.state.specs.declared.Receiver.{Receiver}
-use Rattle.answers.specs.declared.Call.TheVariants.{Done}
 use Rattle.answers.specs.declared.Ticked.{Ticked}
 use Rattle.rules.specs.calls.Clock.{clock_rows, drops, dies, aged, aged_senders, map_where, ticked, not_ticked, clock_answer}
-use Rattle.rules.specs.calls.First.{row, first}
-use Rattle.rules.proofs.calls.FirstLaws.{first_here, first_later}
+use Rattle.rules.specs.calls.First.{row, checked}
+use Rattle.rules.proofs.calls.FirstLaws.{checked_here, checked_later}
 use Rattle.state.specs.Limits.{valid, clock_most}
 use Rattle.state.specs.State.{no_sender, sender_at, settings_from, state_of, with_senders}
 use Rattle.state.proofs.WithinLaws.{written_place, valid_length}
@@ -49,20 +49,20 @@ map_below f l (suc k) = cond_case (λ (x : ℕ). map_where f l k + x < 2 ^ suc k
 
 -- ---- the answer, by the tests
 
-pub clock_nine : (w : Receiver) (now : ℕ) → valid w ≡ false → not_ticked w 9 ≡ clock_answer w now
+pub clock_nine : (w : Receiver) (now : ℕ) → valid w ≡ false → not_ticked w refusals.State ≡ clock_answer w now
 unfolding clock_answer
-clock_nine w now e = rw (first_here 9 (not (valid w)) (row 21 (ltb now w.clock || ltb clock_most now) ∷ []) (rw e))
+clock_nine w now e = rw (checked_here refusals.State (not (valid w)) (row refusals.Clock (ltb now w.clock || ltb clock_most now) ∷ []) (rw e))
 
 module _ (w : Receiver) (now : ℕ) (e : valid w ≡ true) where
-  rest : first (clock_rows w now) ≡ first (row 21 (ltb now w.clock || ltb clock_most now) ∷ [])
-  rest = first_later 9 (not (valid w)) (row 21 (ltb now w.clock || ltb clock_most now) ∷ []) (rw e)
+  rest : checked (clock_rows w now) ≡ checked (row refusals.Clock (ltb now w.clock || ltb clock_most now) ∷ [])
+  rest = checked_later refusals.State (not (valid w)) (row refusals.Clock (ltb now w.clock || ltb clock_most now) ∷ []) (rw e)
 
-  pub clock_back_lem : ltb now w.clock || ltb clock_most now ≡ true → not_ticked w 21 ≡ clock_answer w now
+  pub clock_back_lem : ltb now w.clock || ltb clock_most now ≡ true → not_ticked w refusals.Clock ≡ clock_answer w now
   unfolding clock_answer
-  clock_back_lem f = rw (rest, first_here 21 (ltb now w.clock || ltb clock_most now) [] f)
+  clock_back_lem f = rw (rest, checked_here refusals.Clock (ltb now w.clock || ltb clock_most now) [] f)
 
   pub clock_on : ltb now w.clock || ltb clock_most now ≡ false → ticked w now ≡ clock_answer w now
-  unfolding clock_answer first
+  unfolding clock_answer checked
   clock_on f = rw (rest, f)
 
   -- What it leaves of the time and of the sender at place i: what held of them before, or holds of them aged.
@@ -91,7 +91,7 @@ state_more w v t now k s e f =
 
 pub ticked_is : (w v : Receiver) (now k x y : ℕ) → k ≡ w.count → v ≡ with_senders w (aged_senders w.t now w.senders k)
     → x ≡ map_where (drops w.t now) w.senders k → y ≡ map_where (dies now) w.senders k
-    → record { call = Done; dropped = x; dead = y; state = state_of (settings_from v) now v.senders } ≡ ticked w now
+    → record { call = Ok tt; dropped = x; dead = y; state = state_of (settings_from v) now v.senders } ≡ ticked w now
 unfolding ticked
 ticked_is w v now k x y e f g h = rw (g, h, f, e)
 

@@ -1,9 +1,10 @@
 -- Laws of the multicast call: what is known where no number applies, the entries that stay, and that tables within 26's limits
 -- stay within them. Assumes nothing.
-use Rattle.std.specs.Prelude.{ℕ, zero, suc, ◌+◌, ◌*◌, ◌≤◌, ◌<◌, ◌≡◌, refl, ◌≢◌, Bool, true, false, not, cond, ◌&&◌, ◌||◌, List, eqb, leb, length}
+use Rattle.std.specs.Prelude.{ℕ, zero, suc, ◌+◌, ◌*◌, ◌≤◌, ◌<◌, ◌≡◌, refl, ◌≢◌, Bool, true, false, not, cond, ◌&&◌, ◌||◌, List, eqb, leb, length, Err}
 use Rattle.std.proofs.Common.{sym, ap, ◌∙◌, ⊎_elim, mul-le-mul_right, arith, length-set, get_or-set_same, get_or-set_other, leb-true, leb-false, lt-ltb, eqb-true, eq-eqb}
 use Rattle.std.proofs.lemmas.Bool.{not-false}
 use Rattle.octets.specs.Split.{lt_or_le, eq_or_ne, cond_case, both, and_left, and_right}
+use Rattle.refusal.specs.declared.Refusal.TheVariants as refusals
 use Rattle.ring.specs.Ring.{M, is_number}
 use Rattle.ring.specs.Check.{is_repeat, is_unchecked}
 use Rattle.header.specs.declared.Head.{Head}
@@ -16,8 +17,8 @@ use Rattle.answers.specs.declared.Listener.{Listener}
 use Rattle.answers.specs.declared.Outcome.{Outcome}
 use Rattle.answers.specs.declared.Outcome.TheVariants.{Refused, Delivered}
 use Rattle.answers.specs.Told.{refusal}
-use Rattle.rules.specs.calls.First.{first}
-use Rattle.rules.proofs.calls.FirstLaws.{first_here, first_none}
+use Rattle.rules.specs.calls.First.{checked, first}
+use Rattle.rules.proofs.calls.FirstLaws.{check_case, checked_here, first_none}
 use Rattle.rules.specs.calls.Message.{head_within}
 use Rattle.rules.proofs.calls.MessageLaws.{head_number}
 use Rattle.rules.specs.calls.Multicast.{Tables, priorities, entries_of, entry_place, entry_at, with_entry, each_entry, tables_within, most_cast, one_piece, place_for, verdict_in, cast_rows, listening, cast_outcome, is_kept, kept_by, cast_tables, group_answer, multicast_answer, multicast_tables}
@@ -38,15 +39,15 @@ pub record Cast (s : Listener) (t : Tables) (g : ℕ) (packet : List ℕ) (h : H
 pub cast_facts : (s : Listener) (t : Tables) (g : ℕ) (packet : List ℕ) (h : Head) → first (cast_rows s t g packet h) ≡ 0 → Cast s t g packet h
 unfolding cast_rows
 cast_facts s t g packet h e =
-    let r9 = first_none 9 (not s.valid) _ (λ z. omega arith) e in
-    let r26 = first_none 26 (not (tables_within (entries_of s.count s.groups.count) t)) _ (λ z. omega arith) r9.1 in
-    let r12 = first_none 12 (length_outside header_size most_cast (length packet) h) _ (λ z. omega arith) r26.1 in
-    let r13 = first_none 13 (not (head_within packet h)) _ (λ z. omega arith) r12.1 in
-    let r14 = first_none 14 (leb s.count s.at) _ (λ z. omega arith) r13.1 in
-    let r25 = first_none 25 (leb s.groups.count (place_of s.groups g)) _ (λ z. omega arith) r14.1 in
-    let r15 = first_none 15 (eqb h.given.mode 1 && not s.test) _ (λ z. omega arith) r25.1 in
-    let r16 = first_none 16 (not (one_piece h.cut)) _ (λ z. omega arith) r15.1 in
-    let r17 = first_none 17 (is_repeat (verdict_in s t g h)) _ (λ z. omega arith) r16.1 in
+    let r9 = first_none _ (not s.valid) _ e in
+    let r26 = first_none _ (not (tables_within (entries_of s.count s.groups.count) t)) _ r9.1 in
+    let r12 = first_none _ (length_outside header_size most_cast (length packet) h) _ r26.1 in
+    let r13 = first_none _ (not (head_within packet h)) _ r12.1 in
+    let r14 = first_none _ (leb s.count s.at) _ r13.1 in
+    let r25 = first_none _ (leb s.groups.count (place_of s.groups g)) _ r14.1 in
+    let r15 = first_none _ (eqb h.given.mode 1 && not s.test) _ r25.1 in
+    let r16 = first_none _ (not (one_piece h.cut)) _ r15.1 in
+    let r17 = first_none _ (is_repeat (verdict_in s t g h)) _ r16.1 in
     record {
       is_valid = not-false s.valid r9.0;
       tables_within_lem = not-false (tables_within (entries_of s.count s.groups.count) t) r26.0;
@@ -180,26 +181,25 @@ kept_within n t k h e f = record {
 -- Whatever the packet, tables within their limits stay within them.
 pub cast_within : (n : ℕ) (s : Listener) (t : Tables) (g : ℕ) (packet : List ℕ) (h : Head) → tables_within n t ≡ true → tables_within n (cast_tables s t g packet h) ≡ true
 unfolding cast_outcome kept_by
-cast_within n s t g packet h ok = by (eqb (first (cast_rows s t g packet h)) 0) refl
-  where
-    by : (b : Bool) → eqb (first (cast_rows s t g packet h)) 0 ≡ b
-        → tables_within n (cond (is_kept (cond {A = Outcome} b (Delivered (verdict_in s t g h)) (refusal (first (cast_rows s t g packet h)) (verdict_in s t g h)))) (with_entry t (place_for s g h) h.given.version h.given.number) t) ≡ true
-    by true e = cond_case (λ (x : Tables). tables_within n x ≡ true) (not (is_unchecked (verdict_in s t g h))) _ _
-        (λ _.
-        let number = head_number packet h (cast_facts s t g packet h (eqb-true (first (cast_rows s t g packet h)) 0 e)).head_within_lem in
-        tables_of n _ (kept_within n t (place_for s g h) h number (tables_facts n t ok)))
-        (λ _. ok)
-    by false e = ok
+cast_within n s t g packet h ok =
+    check_case (λ (o : Outcome). tables_within n (cond (is_kept o) (with_entry t (place_for s g h) h.given.version h.given.number) t) ≡ true)
+    (cast_rows s t g packet h) (Delivered (verdict_in s t g h)) (λ r. refusal r (verdict_in s t g h))
+    (λ e. cond_case (λ (x : Tables). tables_within n x ≡ true) (not (is_unchecked (verdict_in s t g h))) _ _
+    (λ _.
+    let number = head_number packet h (cast_facts s t g packet h e).head_within_lem in
+    tables_of n _ (kept_within n t (place_for s g h) h number (tables_facts n t ok)))
+    (λ _. ok))
+    (λ r e. ok)
 
 -- ---- a state outside its limits
 
 -- Of a state outside its limits nothing else is looked at.
-pub listening_nine : (s : Listener) (t : Tables) (g : ℕ) (packet : List ℕ) (h : Head) → s.valid ≡ false → first (cast_rows s t g packet h) ≡ 9
+pub listening_nine : (s : Listener) (t : Tables) (g : ℕ) (packet : List ℕ) (h : Head) → s.valid ≡ false → checked (cast_rows s t g packet h) ≡ Err refusals.State
 unfolding cast_rows
-listening_nine s t g packet h outside = first_here 9 (not s.valid) _ (rw outside)
+listening_nine s t g packet h outside = checked_here refusals.State (not s.valid) _ (rw outside)
 
 pub multicast_nine : (w : Receiver) (t : Tables) (g : ℕ) (packet : List ℕ) → valid w ≡ false
-    → (multicast_answer w t g packet ≡ group_answer (Refused 9 0)) × (multicast_tables w t g packet ≡ t)
+    → (multicast_answer w t g packet ≡ group_answer (Refused refusals.State 0)) × (multicast_tables w t g packet ≡ t)
 unfolding multicast_answer multicast_tables cast_outcome kept_by
 multicast_nine w t g packet outside =
     let nine = listening_nine (listening w (head_of packet)) t g packet (head_of packet) outside in

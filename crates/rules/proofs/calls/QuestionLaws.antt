@@ -1,18 +1,18 @@
 -- Laws of the question: what is found by walking over senders and pieces to the first missing one. Assumes nothing.
-use Rattle.std.specs.Prelude.{◌≡◌, refl, ◌≢◌, Bool, false, cond, List, ℕ, zero, suc, ◌+◌, ◌-◌, ◌≤◌, ◌<◌, ltb, get_or}
+use Rattle.std.specs.Prelude.{◌≡◌, refl, ◌≢◌, Bool, false, cond, List, ℕ, zero, suc, ◌+◌, ◌-◌, ◌≤◌, ◌<◌, ltb, get_or, Some, None, Ok, Err}
 use Rattle.std.proofs.Common.{sym, ap, ◌∙◌, ⊎_elim}
 use Rattle.std.proofs.Math.Bool.{true}
 use native.Mathlib.Omega.{arith}
 use borrow.Author.Tests.{lt-ltb, le-ltb, ltb-true, eqb-true}
 use Rattle.octets.specs.Split.{eq_or_ne, true_or_false}
+use Rattle.refusal.specs.declared.Refusal.TheVariants as refusals
 use Rattle.cut.proofs.PossibleLaws.{several_facts, several_most}
 use Rattle.map.specs.Map.{bit, holds, lowest}
 use Rattle.map.proofs.MapLaws.{full_only, lowest_first_lem, holds_not}
 use Rattle.state.specs.declared.Message.{Message}
 use Rattle.state.specs.declared.Sender.{Sender}
 use Rattle.state.specs.declared.Receiver.{Receiver}
-use Rattle.answers.specs.declared.Missing.TheVariants.{Refused, NoneOpen, Piece}
-use Rattle.rules.specs.calls.First.{first}
+use Rattle.rules.specs.calls.First.{checked}
 use Rattle.state.specs.Limits.{valid}
 use Rattle.rules.specs.calls.Question.{first_open, pieces_of, question_answer}
 use Rattle.state.specs.State.{no_sender, sender_at, first_where}
@@ -89,15 +89,15 @@ some_piece s k q = ⊎_elim
 -- ---- the answer, by where the walk ended
 
 module _ (w : Receiver) (ok : valid w ≡ true) where
-  pub question_none : (i : ℕ) → i ≡ w.count → ((j : ℕ) → j < i → (sender_at w j).«open» ≡ false) → NoneOpen ≡ question_answer w
-  unfolding question_answer first
+  pub question_none : (i : ℕ) → i ≡ w.count → ((j : ℕ) → j < i → (sender_at w j).«open» ≡ false) → Ok None ≡ question_answer w
+  unfolding question_answer checked
   question_none i e h =
       let none : first_open w ≡ w.count = first_none_of (λ s. s.«open») w.senders w.count (rw e at h) in
       rw (ok, none, le-ltb w.count w.count (omega arith))
 
   pub question_piece : (i k : ℕ) → i < w.count → ((j : ℕ) → j < i → (sender_at w j).«open» ≡ false) → k < pieces_of (sender_at w i)
-      → Held (sender_at w i) k → holds (sender_at w i).message.map (k + 1) ≡ false → Piece i (k + 1) ≡ question_answer w
-  unfolding question_answer first
+      → Held (sender_at w i) k → holds (sender_at w i).message.map (k + 1) ≡ false → Ok (Some (record { sender = i; piece = k + 1 })) ≡ question_answer w
+  unfolding question_answer checked
   question_piece i k q h p held miss =
       let s = sender_at w i in
       let o : s.«open» ≡ true = some_piece s k p in
@@ -110,6 +110,6 @@ module _ (w : Receiver) (ok : valid w ≡ true) where
       = lowest_first_lem 64 k s.message.map (omega arith) (bit_of s k held) (rw same at (holds_not s.message.map (k + 1) miss)) in
       rw (ok, here, lt-ltb i w.count q, low)
 
-pub question_nine : (w : Receiver) → valid w ≡ false → Refused 9 ≡ question_answer w
-unfolding question_answer first
+pub question_nine : (w : Receiver) → valid w ≡ false → Err refusals.State ≡ question_answer w
+unfolding question_answer checked
 question_nine w e = rw e

@@ -12,7 +12,8 @@ use Rattle.rules.specs.calls.Admit.{rejoins, verdict_of, sender_rows, map_after,
 use Rattle.rules.specs.calls.Alike.{seen}
 use Rattle.rules.specs.calls.Alive.{heard_by}
 use Rattle.rules.specs.calls.Clock.{drops, dies, aged}
-use Rattle.rules.specs.calls.First.{first}
+use Rattle.rules.specs.calls.First.{checked}
+use Rattle.rules.proofs.calls.FirstLaws.{check_ap}
 use Rattle.state.specs.Limits.{sender_within}
 use Rattle.state.specs.State.{with_message, with_heard}
 
@@ -140,8 +141,8 @@ module _ (h : Head) where
   looks_admission test n1 clock s =
       let rows = looks_rows test n1 s in
       let outcome : Admission → Outcome = λ a. a.outcome in
-      cond_ap outcome (eqb (first (sender_rows test n1 (seen s) h)) 0) _ _
-      ∙ rw (rows, looks_outcome n1 clock s, looks_verdict n1 s) (sym (cond_ap outcome (eqb (first (sender_rows test n1 s h)) 0) _ _))
+      check_ap outcome (checked (sender_rows test n1 (seen s) h)) _ _
+      ∙ rw (rows, looks_outcome n1 clock s, looks_verdict n1 s) (sym (check_ap outcome (checked (sender_rows test n1 s h)) _ _))
 
   pub changes_after : (n1 clock : ℕ) → ChangesSeen (λ s. sender_after n1 clock s h)
   unfolding seen sender_after

@@ -1,7 +1,7 @@
 -- A valid state stays valid: the state that setup returns and the one that every call returns pass 9, so that no past
 -- ever meets 9. Assumes nothing.
 use Rattle.std.specs.Prelude.{◌≡◌, refl, Bool, true, false, not, ◌&&◌, ◌||◌, List, ℕ, zero, suc, ◌≤◌, ◌<◌, eqb, leb, ltb, get_or, set}
-use Rattle.std.proofs.Common.{ap, ◌∙◌, ⊎_elim, arith, le-leb, lt-ltb, ltb-false, eqb-true}
+use Rattle.std.proofs.Common.{ap, ◌∙◌, ⊎_elim, arith, le-leb, lt-ltb, ltb-false}
 use Rattle.std.proofs.Math.Bool.{and-true}
 use Rattle.std.proofs.lemmas.Bool.{false≢true, not-true}
 use Rattle.octets.specs.Split.{true_or_false, cond_case, both, and_left, and_right}
@@ -25,11 +25,11 @@ use Rattle.rules.proofs.calls.AdmitValidLaws.{after_stays}
 use Rattle.rules.specs.calls.Alive.{heard_by, alive_rows, alive_answer}
 use Rattle.rules.specs.calls.Clock.{drops, dies, aged, aged_senders, ticked, not_ticked, clock_answer}
 use Rattle.rules.proofs.calls.ClockLaws.{aged_done, clock_back_lem, clock_on}
-use Rattle.rules.specs.calls.First.{first}
+use Rattle.rules.proofs.calls.FirstLaws.{check_case}
 use Rattle.state.specs.Limits.{clock_most, is_address, last_within, sender_within, address_at, senders_within, settings_of, settings_within, valid, given, addresses_within}
 use Rattle.state.proofs.LimitsLaws.{new_ext}
 use Rattle.state.specs.Table.{found}
-use Rattle.rules.specs.calls.Message.{head_within, message_number, with_sender, taken, refused, message_answer}
+use Rattle.rules.specs.calls.Message.{head_within, message_rows, message_number, with_sender, taken, refused, message_answer}
 use Rattle.rules.proofs.calls.MessageLaws.{or_false, taken_facts}
 use Rattle.rules.specs.calls.Setup.{setup_within, new_senders, setup_state, setup_answer}
 use Rattle.rules.proofs.calls.SetupLaws.{setup_facts}
@@ -105,9 +105,9 @@ taken_valid w room packet v e =
 
 pub message_valid : (w : Receiver) (room : ℕ) (packet : List ℕ) → valid w ≡ true → valid (message_answer w room packet).state ≡ true
 unfolding message_answer refused
-message_valid w room packet v = cond_case (λ (x : Answer). valid x.state ≡ true) (eqb (message_number w room packet) 0) _ _
-    (λ e. taken_valid w room packet v (eqb-true (message_number w room packet) 0 e))
-    (λ _. v)
+message_valid w room packet v = check_case (λ (x : Answer). valid x.state ≡ true) (message_rows w room packet) _ _
+    (taken_valid w room packet v)
+    (λ r _. v)
 
 -- ---- the alive call
 
@@ -128,9 +128,9 @@ pub alive_valid : (w : Receiver) (packet : List ℕ) → valid w ≡ true → va
 unfolding alive_answer
 alive_valid w packet v =
     let i = found w (head_of packet) in
-    cond_case (λ (x : Noted). valid x.state ≡ true) (eqb (first (alive_rows w packet)) 0) _ _
+    check_case (λ (x : Noted). valid x.state ≡ true) (alive_rows w packet) _ _
     (λ _. sender_valid w i (heard_by w.clock (sender_at w i) (body_of packet)) (heard_stays w.clock (sender_at w i) (body_of packet)) v)
-    (λ _. v)
+    (λ r _. v)
 
 -- ---- the clock call
 

@@ -1,6 +1,6 @@
 -- "… are written 0": what is not looked at is 0 from setup on, and every call leaves it so. Assumes nothing.
-use Rattle.std.specs.Prelude.{◌≡◌, refl, ◌≢◌, List, eqb, length, get_or, set, replicate}
-use Rattle.std.proofs.Common.{◌∙◌, ⊎_elim, arith, length-set, get_or-set_same, get_or-set_other, eqb-true}
+use Rattle.std.specs.Prelude.{◌≡◌, refl, ◌≢◌, List, length, get_or, set, replicate}
+use Rattle.std.proofs.Common.{◌∙◌, ⊎_elim, arith, length-set, get_or-set_same, get_or-set_other}
 use Prim.Native.Nat.{ℕ, zero, suc, ◌≤◌, ◌<◌}
 use Rattle.std.proofs.lemmas.List.{get_or-replicate}
 use Rattle.std.proofs.Math.ListN.{get_or-eq_default}
@@ -22,9 +22,9 @@ use Rattle.rules.specs.calls.Alive.{alive_rows, heard_by, alive_answer}
 use Rattle.rules.specs.calls.Clock.{clock_rows, aged, aged_senders, ticked, not_ticked, clock_answer}
 use Rattle.rules.proofs.calls.AliveLaws.{alive_facts}
 use Rattle.rules.proofs.calls.ClockLaws.{aged_later}
-use Rattle.rules.specs.calls.First.{first}
+use Rattle.rules.proofs.calls.FirstLaws.{check_case}
 use Rattle.state.specs.Table.{found}
-use Rattle.rules.specs.calls.Message.{message_number, with_sender, taken, refused, message_answer}
+use Rattle.rules.specs.calls.Message.{message_rows, with_sender, taken, refused, message_answer}
 use Rattle.rules.proofs.calls.MessageLaws.{taken_facts}
 use Rattle.state.specs.Limits.{given}
 use Rattle.rules.specs.calls.Setup.{new_senders, setup_within, setup_state, setup_answer}
@@ -108,21 +108,19 @@ module _ (w : Receiver) (z : Zeroed w) where
   unfolding message_answer taken refused admitted
   zeroed_message room packet =
       let h = head_of packet in
-      let k = message_number w room packet in
-      cond_case (λ (x : Answer). Zeroed x.state) (eqb k 0) _ _
+      check_case (λ (x : Answer). Zeroed x.state) (message_rows w room packet) _ _
       (λ e. zeroed_changed (λ s. sender_after w.n1 w.clock s h) (changes_after h w.n1 w.clock) (found w h)
-      (taken_facts w room packet (eqb-true k 0 e)).0.registered)
-      (λ e. z)
+      (taken_facts w room packet e).0.registered)
+      (λ r e. z)
 
   pub zeroed_alive : (packet : List ℕ) → Zeroed (alive_answer w packet).state
   unfolding alive_answer
   zeroed_alive packet =
       let b = body_of packet in
-      let k = first (alive_rows w packet) in
-      cond_case (λ (x : Noted). Zeroed x.state) (eqb k 0) _ _
+      check_case (λ (x : Noted). Zeroed x.state) (alive_rows w packet) _ _
       (λ e. zeroed_changed (λ s. heard_by w.clock s b) (changes_heard w.clock b) (found w (head_of packet))
-      (alive_facts w packet (eqb-true k 0 e)).registered)
-      (λ e. z)
+      (alive_facts w packet e).registered)
+      (λ r e. z)
 
   zero_aged : (t now k : ℕ) → ZeroTable (aged_senders t now w.senders k)
   unfolding aged_senders
@@ -132,10 +130,10 @@ module _ (w : Receiver) (z : Zeroed w) where
 
   pub zeroed_clock : (now : ℕ) → Zeroed (clock_answer w now).state
   unfolding clock_answer ticked not_ticked
-  zeroed_clock now = cond_case (λ (x : Ticked). Zeroed x.state) (eqb (first (clock_rows w now)) 0) _ _
+  zeroed_clock now = check_case (λ (x : Ticked). Zeroed x.state) (clock_rows w now) _ _
       (λ e. record {
         groups_zero = z.groups_zero;
         sender_zero = λ k h. zero_aged w.t now w.count k;
         past_zero = λ k h. aged_later w.t now w.senders w.count k h ∙ z.past_zero k h;
       })
-      (λ e. z)
+      (λ r e. z)

@@ -13,8 +13,8 @@ use Rattle.answers.specs.declared.Started.{Started}
 use Rattle.answers.specs.declared.Ticked.{Ticked}
 use Rattle.rules.proofs.calls.ChangesLaws.{message_only, alive_only}
 use Rattle.rules.specs.calls.Clock.{clock_rows, clock_answer, ticked, not_ticked}
-use Rattle.rules.specs.calls.First.{first}
-use Rattle.rules.specs.calls.Message.{area, message_number, message_storage, storage_after}
+use Rattle.rules.proofs.calls.FirstLaws.{check_case}
+use Rattle.rules.specs.calls.Message.{area, message_rows, message_storage, storage_after}
 use Rattle.rules.specs.pasts.Past.{World, Event, message, alive, clock, aside, step, after, Start}
 use Rattle.rules.specs.calls.Setup.{setup_within, new_senders, setup_state, setup_answer}
 use Rattle.rules.proofs.calls.SetupLaws.{setup_count}
@@ -58,12 +58,12 @@ length_after storage i packet = cond_case (λ (x : List ℕ). length x ≡ lengt
 
 pub same_room : (w : Receiver) (storage packet : List ℕ) → length (message_storage w storage packet) ≡ length storage
 unfolding message_storage
-same_room w storage packet = cond_case (λ (x : List ℕ). length x ≡ length storage) (eqb (message_number w (length storage) packet) 0) _ _ (λ _. length_after storage _ packet) (λ _. refl)
+same_room w storage packet = check_case (λ (x : List ℕ). length x ≡ length storage) (message_rows w (length storage) packet) _ _ (λ _. length_after storage _ packet) (λ r _. refl)
 
 clock_settings : (w : Receiver) (now : ℕ) → settings_from (clock_answer w now).state ≡ settings_from w
 unfolding clock_answer ticked not_ticked
 clock_settings w now =
-    cond_case (λ (a : Ticked). settings_from a.state ≡ settings_from w) (eqb (first (clock_rows w now)) 0) (ticked w now) (not_ticked w (first (clock_rows w now))) (λ _. refl) (λ _. refl)
+    check_case (λ (a : Ticked). settings_from a.state ≡ settings_from w) (clock_rows w now) (ticked w now) (not_ticked w) (λ _. refl) (λ r _. refl)
 
 pub same_settings : (w : World) (e : Event) → settings_from (step w e).state ≡ settings_from w.state
 unfolding step

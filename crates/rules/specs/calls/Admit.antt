@@ -1,6 +1,7 @@
 -- What one sender's record makes of a PDU that has come as far as its sender: the numbers 15 to 20, and what an
 -- admitted PDU does (D.4.4; "we follow the prose").
 use Rattle.std.specs.Prelude.{ℕ, ◌+◌, Bool, true, false, not, cond, ◌&&◌, ◌||◌, List, [], ◌∷◌, eqb, ltb}
+use Rattle.refusal.specs.declared.Refusal.TheVariants as refusals
 use Rattle.ring.specs.declared.Verdict.{Verdict}
 use Rattle.ring.specs.Check.{check, is_repeat, is_unchecked}
 use Rattle.ring.specs.Ring.{newer}
@@ -15,7 +16,7 @@ use Rattle.answers.specs.declared.Dropped.{Dropped}
 use Rattle.answers.specs.declared.Outcome.{Outcome}
 use Rattle.answers.specs.declared.Outcome.TheVariants.{Stored, Delivered}
 use Rattle.answers.specs.Told.{refusal}
-use Rattle.rules.specs.calls.First.{Row, row, first}
+use Rattle.rules.specs.calls.First.{Row, row, checked, by_check}
 use Rattle.state.specs.State.{no_message, with_message, with_last}
 
 -- ---- the open message and the PDU
@@ -46,17 +47,17 @@ verdict_of n1 s h = verdict_by n1 s.last h
 unfoldable pub sender_rows : Bool → ℕ → Sender → Head → List Row
 sender_rows test n1 s h =
     -- "test message at an online node"
-    row 15 (eqb h.given.mode 1 && not test)
+    row refusals.Test (eqb h.given.mode 1 && not test)
     -- "cut not possible"
-    ∷ row 16 (not (possible h.cut))
+    ∷ row refusals.Cut (not (possible h.cut))
     -- "number check says repeat"
-    ∷ row 17 (is_repeat (verdict_of n1 s h))
+    ∷ row refusals.Repeat (is_repeat (verdict_of n1 s h))
     -- "open message has the same version and a" newer "number", by 02, Item 3
-    ∷ row 18 (s.«open» && same_version s h && newer s.message.number h.given.number)
+    ∷ row refusals.Older (s.«open» && same_version s h && newer s.message.number h.given.number)
     -- "same version and number, but TCD, n, TBN or u differ"
-    ∷ row 19 (rejoins s h && not (same_cut s.message h))
+    ∷ row refusals.Differs (rejoins s h && not (same_cut s.message h))
     -- "piece already held (octets not compared)"
-    ∷ row 20 (rejoins s h && holds s.message.map h.cut.cbn)
+    ∷ row refusals.Held (rejoins s h && holds s.message.map h.cut.cbn)
     ∷ []
 
 -- ---- what an admitted PDU does
@@ -151,4 +152,4 @@ not_admitted s o = record { outcome = o; held = 0; dropped = none_dropped; sende
 
 unfoldable pub admission : Bool → ℕ → ℕ → Sender → Head → Admission
 admission test n1 clock s h =
-    cond (eqb (first (sender_rows test n1 s h)) 0) (admitted n1 clock s h) (not_admitted s (refusal (first (sender_rows test n1 s h)) (verdict_of n1 s h)))
+    by_check (checked (sender_rows test n1 s h)) (admitted n1 clock s h) (λ r. not_admitted s (refusal r (verdict_of n1 s h)))

@@ -1,6 +1,8 @@
 -- The alive call: "An alive PDU is 128 to 1,472 octets, its length equal to BSIZE and ML, CBN = TBN = 1, code 60,003,
 -- group 0, layout by 5.3. … No number check."
-use Rattle.std.specs.Prelude.{ℕ, Bool, true, false, not, cond, ◌&&◌, ◌||◌, List, [], ◌∷◌, eqb, leb, length, drop}
+use Rattle.std.specs.Prelude.{ℕ, Bool, true, false, not, cond, ◌&&◌, ◌||◌, List, [], ◌∷◌, eqb, leb, length, drop, Ok, Err}
+use Rattle.refusal.specs.declared.Refusal.{Refusal}
+use Rattle.refusal.specs.declared.Refusal.TheVariants as refusals
 use Rattle.header.specs.declared.Head.{Head}
 use Rattle.signal.specs.declared.Body.{Body}
 use Rattle.signal.specs.Alive.{body_of, is_body, group_of}
@@ -10,9 +12,8 @@ use Rattle.header.specs.Codes.{is_alive}
 use Rattle.header.specs.Head.{head_of, length_outside, common_within}
 use Rattle.state.specs.declared.Sender.{Sender}
 use Rattle.state.specs.declared.Receiver.{Receiver}
-use Rattle.answers.specs.declared.Call.TheVariants.{Done, Refused}
 use Rattle.answers.specs.declared.Noted.{Noted}
-use Rattle.rules.specs.calls.First.{Row, row, first}
+use Rattle.rules.specs.calls.First.{Row, row, checked, by_check}
 use Rattle.state.specs.Limits.{valid}
 use Rattle.state.specs.Table.{found}
 use Rattle.rules.specs.calls.Message.{with_sender}
@@ -45,13 +46,13 @@ fault_within packet = eqb (length packet) alive_size || is_section (drop alive_s
 -- "Alive signals use 9, 12, 13, 14, 22 only", and "24 for a fault section that breaks these rules, after 22".
 abbrev pub signal_rows : Bool → ℕ → ℕ → List ℕ → Head → Body → List Row
 signal_rows ok count i packet h b =
-    row 9 (not ok)
-    ∷ row 12 (alive_length_wrong (length packet) h)
-    ∷ row 13 (not (alive_head_within packet h))
+    row refusals.State (not ok)
+    ∷ row refusals.Length (alive_length_wrong (length packet) h)
+    ∷ row refusals.Header (not (alive_head_within packet h))
     -- "sender not registered"
-    ∷ row 14 (leb count i)
-    ∷ row 22 (not (alive_within (length packet) h b))
-    ∷ row 24 (not (fault_within packet))
+    ∷ row refusals.Sender (leb count i)
+    ∷ row refusals.Alive (not (alive_within (length packet) h b))
+    ∷ row refusals.Fault (not (fault_within packet))
     ∷ []
 
 unfoldable pub alive_rows : Receiver → List ℕ → List Row
@@ -67,14 +68,12 @@ heard_by clock s b =
 -- ---- the call
 
 abbrev pub noted : Receiver → ℕ → Body → Noted
-noted w i b = record { call = Done; state = with_sender w i (heard_by w.clock (sender_at w i) b) }
+noted w i b = record { call = Ok tt; state = with_sender w i (heard_by w.clock (sender_at w i) b) }
 
 -- "A refusal alters no state, stamp, clock, …"
-abbrev pub not_noted : Receiver → ℕ → Noted
-not_noted w k = record { call = Refused k; state = w }
+abbrev pub not_noted : Receiver → Refusal → Noted
+not_noted w r = record { call = Err r; state = w }
 
 unfoldable pub alive_answer : Receiver → List ℕ → Noted
 alive_answer w packet =
-    cond (eqb (first (alive_rows w packet)) 0)
-    (noted w (found w (head_of packet)) (body_of packet))
-    (not_noted w (first (alive_rows w packet)))
+    by_check (checked (alive_rows w packet)) (noted w (found w (head_of packet)) (body_of packet)) (not_noted w)

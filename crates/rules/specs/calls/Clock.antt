@@ -1,16 +1,17 @@
 -- The clock call: "Only the clock call moves time: whole ms, 0 to 1,099,511,627,776, never back, equal allowed."
-use Rattle.std.specs.Prelude.{ℕ, zero, suc, ◌+◌, ◌-◌, ◌*◌, ◌^◌, Bool, not, cond, ◌&&◌, ◌||◌, List, [], ◌∷◌, eqb, leb, ltb, get_or, set}
+use Rattle.std.specs.Prelude.{ℕ, zero, suc, ◌+◌, ◌-◌, ◌*◌, ◌^◌, Bool, not, cond, ◌&&◌, ◌||◌, List, [], ◌∷◌, leb, ltb, get_or, set, Ok, Err}
+use Rattle.refusal.specs.declared.Refusal.{Refusal}
+use Rattle.refusal.specs.declared.Refusal.TheVariants as refusals
 use Rattle.state.specs.declared.Sender.{Sender}
 use Rattle.state.specs.declared.Receiver.{Receiver}
-use Rattle.answers.specs.declared.Call.TheVariants.{Done, Refused}
 use Rattle.answers.specs.declared.Ticked.{Ticked}
-use Rattle.rules.specs.calls.First.{Row, row, first}
+use Rattle.rules.specs.calls.First.{Row, row, checked, by_check}
 use Rattle.state.specs.Limits.{valid, clock_most}
 use Rattle.state.specs.State.{no_message, no_heard, no_sender, settings_from, state_of, with_message, with_heard}
 
 -- "21: clock back or above its limit"
 abbrev pub clock_rows : Receiver → ℕ → List Row
-clock_rows w ms = row 9 (not (valid w)) ∷ row 21 (ltb ms w.clock || ltb clock_most ms) ∷ []
+clock_rows w ms = row refusals.State (not (valid w)) ∷ row refusals.Clock (ltb ms w.clock || ltb clock_most ms) ∷ []
 
 -- "It drops each open message whose age is T or more"
 abbrev pub drops : ℕ → ℕ → Sender → Bool
@@ -43,14 +44,14 @@ map_where f l (suc k) = map_where f l k + cond (f (get_or l k no_sender)) (2 ^ k
 
 unfoldable pub ticked : Receiver → ℕ → Ticked
 ticked w now = record {
-  call = Done;
+  call = Ok tt;
   dropped = map_where (drops w.t now) w.senders w.count;
   dead = map_where (dies now) w.senders w.count;
   state = state_of (settings_from w) now (aged_senders w.t now w.senders w.count);
 }
 
-unfoldable pub not_ticked : Receiver → ℕ → Ticked
-not_ticked w k = record { call = Refused k; dropped = 0; dead = 0; state = w }
+unfoldable pub not_ticked : Receiver → Refusal → Ticked
+not_ticked w r = record { call = Err r; dropped = 0; dead = 0; state = w }
 
 unfoldable pub clock_answer : Receiver → ℕ → Ticked
-clock_answer w ms = cond (eqb (first (clock_rows w ms)) 0) (ticked w ms) (not_ticked w (first (clock_rows w ms)))
+clock_answer w ms = by_check (checked (clock_rows w ms)) (ticked w ms) (not_ticked w)

@@ -1,6 +1,7 @@
 -- The message call: its numbers in the order in which they are tried, and what an admitted PDU does to state and
 -- storage.
 use Rattle.std.specs.Prelude.{ℕ, ◌+◌, ◌*◌, Bool, not, cond, ◌&&◌, List, [], ◌∷◌, ◌++◌, eqb, leb, set, length}
+use Rattle.refusal.specs.declared.Refusal.TheVariants as refusals
 use Rattle.octets.specs.Run.{run, laid}
 use Rattle.ring.specs.declared.Verdict.{Verdict}
 use Rattle.ring.specs.Ring.{is_number}
@@ -20,7 +21,7 @@ use Rattle.answers.specs.Told.{refusal}
 use Rattle.answers.specs.declared.Where.{Where}
 use Rattle.answers.specs.declared.Where.TheVariants.{Nothing, Packet, Storage}
 use Rattle.rules.specs.calls.Admit.{verdict_of, sender_rows, admitted, none_dropped}
-use Rattle.rules.specs.calls.First.{Row, row, first}
+use Rattle.rules.specs.calls.First.{Row, row, checked, first, by_check}
 use Rattle.state.specs.Limits.{valid}
 use Rattle.state.specs.State.{sender_at, with_senders}
 use Rattle.state.specs.Table.{found}
@@ -45,13 +46,13 @@ head_within packet h = common_within packet h && is_user h.given.tcd && is_numbe
 -- 9 and 11 to 14, of a packet with this header from the sender at place i.
 abbrev pub packet_rows : Bool → ℕ → ℕ → ℕ → List ℕ → Head → List Row
 packet_rows ok count i room packet h =
-    row 9 (not ok)
+    row refusals.State (not ok)
     -- "storage length wrong"
-    ∷ row 11 (not (eqb room (count * area)))
-    ∷ row 12 (length_wrong (length packet) h)
-    ∷ row 13 (not (head_within packet h))
+    ∷ row refusals.Storage (not (eqb room (count * area)))
+    ∷ row refusals.Length (length_wrong (length packet) h)
+    ∷ row refusals.Header (not (head_within packet h))
     -- "sender not registered"
-    ∷ row 14 (leb count i)
+    ∷ row refusals.Sender (leb count i)
     ∷ []
 
 unfoldable pub message_rows : Receiver → ℕ → List ℕ → List Row
@@ -75,7 +76,7 @@ abbrev pub lies_at : ℕ → Head → Where
 lies_at i h = cond (eqb h.cut.tbn 1) Packet (Storage (i * area) (message_length h.cut))
 
 abbrev pub where_by : Outcome → ℕ → Head → Where
-where_by (Refused k age) i h = Nothing
+where_by (Refused r age) i h = Nothing
 where_by Stored i h = Nothing
 where_by (Delivered v) i h = lies_at i h
 
@@ -104,10 +105,10 @@ verdict_at w h = verdict_of w.n1 (sender_at w (found w h)) h
 
 unfoldable pub message_answer : Receiver → ℕ → List ℕ → Answer
 message_answer w room packet =
-    cond (eqb (message_number w room packet) 0)
+    by_check (checked (message_rows w room packet))
     (taken w (found w (head_of packet)) (sender_at w (found w (head_of packet))) (head_of packet))
-    (refused w (refusal (message_number w room packet) (verdict_at w (head_of packet))))
+    (λ r. refused w (refusal r (verdict_at w (head_of packet))))
 
 unfoldable pub message_storage : Receiver → List ℕ → List ℕ → List ℕ
 message_storage w storage packet =
-    cond (eqb (message_number w (length storage) packet) 0) (storage_after storage (found w (head_of packet)) (head_of packet) packet) storage
+    by_check (checked (message_rows w (length storage) packet)) (storage_after storage (found w (head_of packet)) (head_of packet) packet) (λ r. storage)

@@ -1,6 +1,7 @@
 -- The multicast call. 02, Item 5: "Add the receiver for class Base-1 …, the group given by the caller from the receiving port.
 -- Messages have one piece and 0 to 1,408 octets."
 use Rattle.std.specs.Prelude.{ℕ, zero, suc, ◌+◌, ◌*◌, Bool, true, false, not, cond, ◌&&◌, List, [], ◌∷◌, ◌++◌, eqb, leb, length, get_or, set}
+use Rattle.refusal.specs.declared.Refusal.TheVariants as refusals
 use Rattle.ring.specs.declared.Number.{Number}
 use Rattle.ring.specs.declared.Version.{Version}
 use Rattle.ring.specs.declared.Verdict.{Verdict}
@@ -22,7 +23,7 @@ use Rattle.answers.specs.Told.{refusal}
 use Rattle.answers.specs.declared.Where.{Where}
 use Rattle.answers.specs.declared.Where.TheVariants.{Nothing, Packet}
 use Rattle.rules.specs.calls.Admit.{verdict_by}
-use Rattle.rules.specs.calls.First.{Row, row, first}
+use Rattle.rules.specs.calls.First.{Row, row, checked, by_check}
 use Rattle.rules.specs.calls.Message.{head_within}
 
 -- ---- the two lent tables
@@ -82,24 +83,24 @@ verdict_in s t g h = verdict_by s.n1 (entry_at t (place_for s g h)) h
 -- 9, 26, 12 to 14 and 25: "25 group not registered, after 14; 26 …, before 12".
 abbrev pub early_cast_rows : Listener → Tables → ℕ → List ℕ → Head → List Row
 early_cast_rows s t g packet h =
-    row 9 (not s.valid)
-    ∷ row 26 (not (tables_within (entries_of s.count s.groups.count) t))
-    ∷ row 12 (length_outside header_size most_cast (length packet) h)
-    ∷ row 13 (not (head_within packet h))
+    row refusals.State (not s.valid)
+    ∷ row refusals.Tables (not (tables_within (entries_of s.count s.groups.count) t))
+    ∷ row refusals.Length (length_outside header_size most_cast (length packet) h)
+    ∷ row refusals.Header (not (head_within packet h))
     -- "sender not registered"
-    ∷ row 14 (leb s.count s.at)
-    ∷ row 25 (leb s.groups.count (place_of s.groups g))
+    ∷ row refusals.Sender (leb s.count s.at)
+    ∷ row refusals.Group (leb s.groups.count (place_of s.groups g))
     ∷ []
 
 -- 15 to 17.
 abbrev pub late_cast_rows : Listener → Tables → ℕ → Head → List Row
 late_cast_rows s t g h =
     -- "test message at an online node"
-    row 15 (eqb h.given.mode 1 && not s.test)
+    row refusals.Test (eqb h.given.mode 1 && not s.test)
     -- "16 unless CBN = TBN = 1 and p = n"
-    ∷ row 16 (not (one_piece h.cut))
+    ∷ row refusals.Cut (not (one_piece h.cut))
     -- "number check says repeat"
-    ∷ row 17 (is_repeat (verdict_in s t g h))
+    ∷ row refusals.Repeat (is_repeat (verdict_in s t g h))
     ∷ []
 
 unfoldable pub cast_rows : Listener → Tables → ℕ → List ℕ → Head → List Row
@@ -116,12 +117,12 @@ multicast_rows w t g packet = cast_rows (listening w (head_of packet)) t g packe
 
 unfoldable pub cast_outcome : Listener → Tables → ℕ → List ℕ → Head → Outcome
 cast_outcome s t g packet h =
-    cond (eqb (first (cast_rows s t g packet h)) 0) (Delivered (verdict_in s t g h)) (refusal (first (cast_rows s t g packet h)) (verdict_in s t g h))
+    by_check (checked (cast_rows s t g packet h)) (Delivered (verdict_in s t g h)) (λ r. refusal r (verdict_in s t g h))
 
 -- "A delivery that is not unchecked writes its version and number into its one entry; nothing else of state, tables or storage
 -- changes."
 abbrev pub is_kept : Outcome → Bool
-is_kept (Refused k age) = false
+is_kept (Refused r age) = false
 is_kept Stored = false
 is_kept (Delivered v) = not (is_unchecked v)
 
@@ -133,7 +134,7 @@ cast_tables s t g packet h = kept_by t (place_for s g h) (cast_outcome s t g pac
 
 -- "The message is handed over as the part of the packet behind its header".
 abbrev pub handed_by : Outcome → Where
-handed_by (Refused k age) = Nothing
+handed_by (Refused r age) = Nothing
 handed_by Stored = Nothing
 handed_by (Delivered v) = Packet
 

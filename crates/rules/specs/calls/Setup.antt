@@ -1,12 +1,12 @@
 -- Setup: "takes the node's mode (online or test), N1 (1 to 1,024), the drop time T in ms (1 to 600,000) and 1 to 16
 -- senders, each a data field and a node, no pair twice".
-use Rattle.std.specs.Prelude.{ℕ, zero, suc, Bool, cond, ◌&&◌, List, eqb, leb, set, replicate}
+use Rattle.std.specs.Prelude.{ℕ, zero, suc, Bool, cond, ◌&&◌, List, eqb, leb, set, replicate, Ok, Err}
+use Rattle.refusal.specs.declared.Refusal.TheVariants as refusals
 use Rattle.groups.specs.Groups.{groups_within, kept}
 use Rattle.header.specs.Codes.{within}
 use Rattle.state.specs.declared.Address.{Address}
 use Rattle.state.specs.declared.Sender.{Sender}
 use Rattle.state.specs.declared.Receiver.{Receiver}
-use Rattle.answers.specs.declared.Call.TheVariants.{Done, Refused}
 use Rattle.answers.specs.declared.Started.{Started}
 use Rattle.answers.specs.declared.Setup.{Setup}
 use Rattle.state.specs.Limits.{is_n1, is_drop_time, given, addresses_within}
@@ -35,4 +35,4 @@ setup_state q = state_of (settings_by q) 0 (new_senders q.senders q.count)
 -- "10: setup outside its limits: empty state"
 unfoldable pub setup_answer : Setup → Started
 setup_answer q =
-    cond (setup_within q) (record { call = Done; state = setup_state q }) (record { call = Refused 10; state = empty_receiver })
+    cond (setup_within q) (record { call = Ok tt; state = setup_state q }) (record { call = Err refusals.Setup; state = empty_receiver })

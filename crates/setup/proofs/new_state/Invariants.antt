@@ -1,5 +1,5 @@
 -- After i turns the first i senders stand in the table. Assumes nothing.
-use Prim.Native.Nat.{◌≤◌, ◌-◌}
+use Prim.Native.Nat.{◌≤◌}
 use mathlib.Core.Path.{◌≡◌}
 use lib.ListN.{length}
 use Rattle.state.specs.State.{senders_most}
@@ -8,7 +8,4 @@ use Rattle.setup.proofs.new_state.Given as goal
 
 abbrev pub invariant-loop-i : goal.invariant-loop-i
 invariant-loop-i l =
-    (l.i ≤ l.count) × (l.count ≤ senders_most) × (length l.state.senders ≡ senders_most) × (l.state ≡ seated l.initial.state l.addresses l.i)
-
-abbrev pub decreases-loop-i : goal.decreases-loop-i
-decreases-loop-i l = l.count - l.i
+    (l.count ≤ senders_most) × (length l.state.senders ≡ senders_most) × (l.state ≡ seated l.initial.state l.addresses l.i)

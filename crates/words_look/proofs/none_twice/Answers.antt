@@ -1,7 +1,6 @@
 -- After i turns the addresses of the first i senders have been seen, and are new. Assumes nothing.
-use Prim.Native.Nat.{ℕ, ◌-◌, ◌%◌}
-use mathlib.Core.Path.{◌≡◌, sym, ap, ◌∙◌}
-use native.Mathlib.Omega.{arith}
+use Prim.Native.Nat.{ℕ, ◌%◌}
+use mathlib.Core.Path.{ap, ◌∙◌}
 use Rattle.words.specs.Words.{half, word}
 use Rattle.words_look.proofs.private.TestsLaws.{apart_none, apart_not, apart_more}
 use Rattle.words_look.proofs.none_twice.Goals as goal
@@ -20,9 +19,3 @@ loop-i-preserved c =
     let l = c.args.words.now in
     let key = ap (λ (w : ℕ). w % half) (c.at.ensures ∙ ap (word l) c.first_of.ensures) in
     apart_more c.loop-i.invariant c.requires.sized c.requires.count_value c.loop-i-test.true key c.fresh.ensures c.if-not-fresh.false
-
-pub returns : goal.returns
-returns c =
-    let own = c.loop-i.invariant in
-    let z : c.loop-i.i ≡ c.args.count = omega (arith, own.few) in
-    rw (sym z) (sym own.are_new)

@@ -65,9 +65,6 @@ pub groups_many : (l : List ℕ) → groups_most < word l 5 → false ≡ groups
 unfolding groups_within
 groups_many l many = rw (lt-leb (word l 5) groups_most many)
 
-pub groups_few : (l : List ℕ) → word l 5 ≤ groups_most → groups_in (word l 5 % 256) (word l 6) ≡ groups_in (word l 5) (word l 6)
-groups_few l few = ap (λ (k : ℕ). groups_in k (word l 6)) (mod-eq_of_lt (omega arith))
-
 -- ---- one sender's words
 
 where_set_lem : (w : ℕ) (asked : Bool) → leb w 1 && (not (flag w) || asked) ≡ where_set w asked

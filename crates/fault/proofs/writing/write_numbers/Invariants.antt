@@ -1,13 +1,9 @@
 -- The loop has laid down the first i numbers. Assumes nothing.
-use Prim.Native.Nat.{◌-◌, ◌≤◌}
 use mathlib.Core.Path.{◌≡◌}
-use lib.ListN.{length, take}
+use lib.ListN.{take}
 use Rattle.octets.specs.Run.{laid}
 use Rattle.fault.specs.Section.{pairs_of}
 use Rattle.fault.proofs.writing.write_numbers.Given as goal
 
 abbrev pub invariant-loop-i : goal.invariant-loop-i
-invariant-loop-i l = (l.i ≤ length l.numbers) × (l.s ≡ laid l.initial.s l.at (pairs_of (take l.i l.numbers))) × (length l.s ≡ length l.initial.s)
-
-abbrev pub decreases-loop-i : goal.decreases-loop-i
-decreases-loop-i l = length l.numbers - l.i
+invariant-loop-i l = l.s ≡ laid l.initial.s l.at (pairs_of (take l.i l.numbers))

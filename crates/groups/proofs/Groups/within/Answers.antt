@@ -1,33 +1,22 @@
--- After i turns the first i groups have been judged. Assumes nothing.
-use Prim.Native.Nat.{ℕ, ◌-◌}
-use mathlib.Core.Path.{◌≡◌, refl, sym, ap, ◌∙◌}
-use native.Mathlib.Omega.{arith}
-use lib.Dec.{eqb}
-use borrow.Author.Tests.{lt-leb, le-leb}
-use Rattle.groups.specs.declared.Group.{Group}
-use Rattle.groups.specs.Groups.{groups_most, is_group, number_at, place_among, each_group, groups_within}
-use Rattle.groups.proofs.GroupsLaws.{each_more}
+-- The count is within its limits, and each group is. Assumes nothing.
+use Rattle.std.proofs.Common.{rules, ◌≡◌, true, false, arith, refl}
+use Rattle.std.proofs.Common.{le-leb}
+use Rattle.std.proofs.lemmas.Bool.{lt-leb}
+use Rattle.std.proofs.lemmas.Iterator.{cases_from_all, YieldsList-from_range}
+use Rattle.groups.specs.Groups.{groups_most, number_at, groups_within}
+use Rattle.groups.proofs.GroupsLaws.{passes, each_of}
 use Rattle.groups.proofs.Groups.within.Goals as goal
 
-pub returns-then-count-gt-PLACES : goal.returns-then-count-gt-PLACES
+pub returns-then-self-le-PLACES : goal.returns-then-self-le-PLACES
 unfolding groups_within
-returns-then-count-gt-PLACES c = rw (lt-leb _ groups_most c.if-count-gt-PLACES.true)
-
-pub loop-i-init : goal.loop-i-init
-unfolding each_group
-loop-i-init c = (omega arith, refl)
-
-pub loop-i-preserved : goal.loop-i-preserved
-loop-i-preserved c =
-    let l = c.loop-i in
+returns-then-self-le-PLACES c =
     let g = c.args.self in
-    let own = ap (λ (x : Group). x.0) c.at-group.ensures in
-    (omega arith, each_more (number_at g) l.i _ _ _ l.invariant.1 (c.within.ensures ∙ ap is_group own) (ap (λ (k : ℕ). eqb k l.i) (c.place_among.ensures ∙ ap (place_among (number_at g) l.i) own)))
+    rw (le-leb g.count groups_most c.if-self-le-PLACES.true)
+    (each_of (number_at g) g.count c.all.result
+    (cases_from_all _ _ _ (λ i. passes (number_at g) i ≡ true) (λ i. passes (number_at g) i ≡ false) c.all.ensures.ran
+    (YieldsList-from_range 0 g.count g.count refl (omega arith)) (λ x q k. search rules) (λ x q k. search rules)))
 
-pub returns : goal.returns
+pub returns-else-self-le-PLACES : goal.returns-else-self-le-PLACES
 unfolding groups_within
-returns c =
-    let l = c.loop-i in
-    let g = c.args.self in
-    let z : l.i ≡ g.count = omega arith in
-    rw (le-leb g.count groups_most c.if-count-gt-PLACES.false, sym z) l.invariant.1
+returns-else-self-le-PLACES c =
+    rw (lt-leb c.args.self.count groups_most c.if-self-le-PLACES.false)

@@ -22,7 +22,7 @@ use Rattle.state.specs.State.{first_where}
 use Rattle.rules.specs.calls.Admit.{rejoins, same_cut, sender_rows, map_after, kept_after, fills, dropped_by, sender_after, held_after, admitted}
 use Rattle.rules.specs.calls.Alive.{alive_head_within, alive_within, fault_within, alive_rows, heard_by, alive_answer}
 use Rattle.rules.specs.calls.Clock.{aged, aged_senders, map_where, ticked, not_ticked, clock_answer}
-use Rattle.rules.specs.calls.First.{first}
+use Rattle.rules.specs.calls.First.{checked}
 use Rattle.rules.specs.calls.Message.{head_within, message_rows, storage_after, with_sender, taken, refused, message_answer, message_storage}
 use Rattle.rules.specs.calls.Multicast.{entry_place, each_entry, tables_within, one_piece, cast_rows, cast_outcome, kept_by, multicast_answer, multicast_tables}
 use Rattle.rules.specs.calls.Part.{stored_part}
@@ -39,7 +39,7 @@ unfolding
     unit front_possible last_possible several_possible possible bit holds_all marked lowest
     last_within message_within sender_within new_among addresses_within senders_within settings_of valid first_where
     setup_within new_senders setup_state setup_answer first_place each_group groups_within kept_at kept_list
-    first head_within message_rows message_answer taken refused with_sender message_storage storage_after stored_part
+    checked head_within message_rows message_answer taken refused with_sender message_storage storage_after stored_part
     sender_rows admitted rejoins same_cut map_after kept_after fills dropped_by sender_after held_after
     alive_head_within alive_within fault_within is_section judged none_above are_errors errors_from alive_rows heard_by alive_answer
     clock_answer ticked not_ticked aged_senders aged map_where question_answer

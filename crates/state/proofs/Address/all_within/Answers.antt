@@ -1,12 +1,13 @@
 -- After i turns the first i addresses have been judged. Assumes nothing.
-use Prim.Native.Nat.{◌-◌}
 use mathlib.Core.Path.{◌≡◌, refl, sym, ◌∙◌}
 use native.Mathlib.Omega.{arith}
 use borrow.Author.Rules.{rules}
 use lib.ListN.{length, length-set}
 use Rattle.octets.specs.Split.{mapped_length}
 use Rattle.state.specs.Limits.{addresses_within}
-use Rattle.state.specs.State.{senders_most}
+use Rattle.state.specs.State.{no_address, senders_most}
+use Rattle.std.proofs.Common.{◌<◌, length-take}
+use Rattle.std.proofs.lemmas.List.{get_or-take}
 use Rattle.state.proofs.LimitsLaws.{addresses_more, addresses_few}
 use Rattle.state.proofs.KeyLaws.{seen_none, seen_more, new_seen}
 use Rattle.state.proofs.Address.all_within.Goals as goal
@@ -19,22 +20,20 @@ returns-then-count-gt-PLACES c =
 
 pub loop-i-init : goal.loop-i-init
 unfolding addresses_within
-loop-i-init c = (search rules, search rules, search rules, seen_none _, refl)
+loop-i-init c = (search rules, search rules, seen_none _, refl)
 
 pub loop-i-preserved : goal.loop-i-preserved
 loop-i-preserved c =
-    let l = c.loop-i in (
-      omega arith,
-      omega arith,
-      simp length-set l.invariant.2,
-      seen_more l.seen _ l.i _ (omega arith) c.key-key.ensures l.invariant.3,
-      addresses_more _ l.i _ _ _ l.invariant.4 c.within.ensures (λ yes.
-          new_seen _ _ _ _ _ (omega arith) c.key-key.ensures l.invariant.3 (sym c.within.ensures ∙ yes) c.fresh.ensures),
-    )
-
-pub returns : goal.returns
-returns c =
     let l = c.loop-i in
     let a = c.args in
-    let e : l.i ≡ a.count = omega arith in
-    rw e at l.invariant.4
+    let less : l.i < a.count = omega (arith, length-take a.count a.senders) in
+    let here = get_or-take a.count a.senders l.i no_address less in
+    let value = rw here at c.key-key.ensures.value in
+    let narrow = rw here at c.key-key.ensures.narrow in
+    let within = rw here at c.within.ensures in (
+      omega arith,
+      simp length-set l.invariant.1,
+      seen_more l.seen _ l.i _ (omega arith) (value, narrow) l.invariant.2,
+      addresses_more _ l.i _ _ _ l.invariant.3 within (λ yes.
+          new_seen _ _ _ _ _ (omega arith) (value, narrow) l.invariant.2 (sym within ∙ yes) c.fresh.ensures),
+    )

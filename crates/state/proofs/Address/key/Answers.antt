@@ -6,4 +6,4 @@ use Rattle.state.proofs.Address.key.Goals as goal
 
 pub returns : goal.returns
 unfolding key_of
-returns c = (refl, search rules)
+returns c = record { value = refl; narrow = search rules }
