@@ -4,7 +4,7 @@ use Rattle.std.specs.Prelude.{ℕ, ◌≡◌, refl, cond, ◌≢◌, eqb, Some, 
 use Rattle.std.proofs.Common.{sym, ap, ◌∙◌, ⊎_elim, arith, ne_eqb}
 use Rattle.refusal.specs.declared.Refusal.{Refusal}
 use Rattle.refusal.specs.Numbers.{number_of}
-use Rattle.refusal.proofs.NumbersLaws.{nine_or_more, refusal_from, refusal_back, one_number}
+use Rattle.refusal.proofs.NumbersLaws.{nine_or_more, refusal_from, refusal_back}
 use Rattle.octets.specs.Split.{eq_or_ne}
 use Rattle.ring.specs.declared.Verdict.{Verdict}
 use Rattle.ring.specs.declared.Verdict.TheVariants.{Unchecked, First, Restart, Repeat, Next, Gap}
@@ -20,19 +20,20 @@ use Rattle.answers.specs.Told.{RefusedAs, OutcomeTold, outcome_told, age_with, r
 
 -- ---- a refusal's number is told by no other case
 
-pub refused_outcome : (o : Outcome) (r : Refusal) → RefusedAs (outcome_told o).number (number_of r) → o ≡ outcome.Refused r (outcome_told o).age
-refused_outcome (outcome.Refused q age) r t = ap (λ (i : Refusal). outcome.Refused i age) (one_number q r t.0)
-refused_outcome outcome.Stored r t = absurd (omega (arith, t.0, t.1))
-refused_outcome (outcome.Delivered v) r t = absurd (omega (arith, t.0, t.1))
+pub refused_outcome : (o : Outcome) (k : ℕ) → RefusedAs (outcome_told o).number k
+    → (r : Refusal) × ((number_of r ≡ k) × (o ≡ outcome.Refused r (outcome_told o).age))
+refused_outcome (outcome.Refused r age) k t = (r, (t.0, refl))
+refused_outcome outcome.Stored k t = absurd (omega (arith, t.0, t.1))
+refused_outcome (outcome.Delivered v) k t = absurd (omega (arith, t.0, t.1))
 
-pub refused_call : (c : Call) (r : Refusal) → RefusedAs (call_number c) (number_of r) → c ≡ Err r
-refused_call (Ok x) r t = absurd (omega (arith, t.0, t.1))
-refused_call (Err q) r t = ap Err (one_number q r t.0)
+pub refused_call : (c : Call) (k : ℕ) → RefusedAs (call_number c) k → (r : Refusal) × ((number_of r ≡ k) × (c ≡ Err r))
+refused_call (Ok x) k t = absurd (omega (arith, t.0, t.1))
+refused_call (Err r) k t = (r, (t.0, refl))
 
-pub refused_missing : (m : Missing) (r : Refusal) → RefusedAs (question_told m).number (number_of r) → m ≡ Err r
-refused_missing (Err q) r t = ap Err (one_number q r t.0)
-refused_missing (Ok None) r t = absurd (omega (arith, t.0, t.1))
-refused_missing (Ok (Some m)) r t = absurd (omega (arith, t.0, t.1))
+pub refused_missing : (m : Missing) (k : ℕ) → RefusedAs (question_told m).number k → (r : Refusal) × ((number_of r ≡ k) × (m ≡ Err r))
+refused_missing (Err r) k t = (r, (t.0, refl))
+refused_missing (Ok None) k t = absurd (omega (arith, t.0, t.1))
+refused_missing (Ok (Some m)) k t = absurd (omega (arith, t.0, t.1))
 
 -- ---- how old a repeat was
 

@@ -8,8 +8,8 @@ ghost use Rattle.board.specs.Calls.{message_for, storage_for, tally_for};
 
 use board::Told;
 use board_message::adp_message;
+use tally::one_more;
 
-// "each stopping at 4,294,967,295": where a u32 stops.
 pub fn adp_message_tallied(
     state: &mut [u64],
     storage: &mut [u8],
@@ -23,9 +23,9 @@ pub fn adp_message_tallied(
 {
     let r = adp_message(state, storage, packet);
     if r.number <= 1 {
-        tally[0] = tally[0].saturating_add(1);
+        tally[0] = one_more(tally[0]);
     } else {
-        tally[1] = tally[1].saturating_add(1);
+        tally[1] = one_more(tally[1]);
     }
     r
 }

@@ -1,5 +1,5 @@
 -- Laws of the counts and places: in 64 bits no sum of them wraps. Assumes nothing.
-use Rattle.std.specs.Prelude.{ℕ, ◌+◌, ◌-◌, ◌^◌, ◌≤◌, ◌<◌, ◌≡◌, List}
+use Rattle.std.specs.Prelude.{ℕ, ◌+◌, ◌-◌, ◌*◌, ◌^◌, ◌≤◌, ◌<◌, ◌≡◌, List}
 use Rattle.std.proofs.Common.{arith}
 use Rattle.octets.proofs.NumberLaws.{number_bound}
 use Rattle.octets.specs.Number.{Octets}
@@ -23,6 +23,14 @@ pub list_from : (s : List ℕ) (p : Places) → p ≡ places_of s → 16 ≤ p.l
 unfolding places_of
 list_from s p e = rw e (omega arith)
 
+pub list_size : (s : List ℕ) (p : Places) → p ≡ places_of s → p.list - 16 ≡ bits_size (modules_in s)
+unfolding places_of
+list_size s p e = rw e (omega arith)
+
 pub list_name : (s : List ℕ) (p : Places) → p ≡ places_of s → p.list - 8 ≡ 8 + bits_size (modules_in s)
 unfolding places_of
 list_name s p e = rw e (omega arith)
+
+pub list_ends : (s : List ℕ) (p : Places) → p ≡ places_of s → p.list + 4 * p.errors + 4 ≡ p.rest
+unfolding places_of
+list_ends s p e = rw e

@@ -59,13 +59,13 @@ octets_two x small =
     rw high
 
 -- A number's two octets, stored one after the other.
-two_octets : (s : List ℕ) (at x : ℕ) → x < 65536 → at + 2 ≤ length s → set (set s at (x / 256)) (at + 1) (x % 256) ≡ laid s at (octets 2 x)
+pub two_octets : (s : List ℕ) (at x : ℕ) → x < 65536 → at + 2 ≤ length s → set (set s at (x / 256)) (at + 1) (x % 256) ≡ laid s at (octets 2 x)
 two_octets s at x small room =
     rw (octets_two x small, add-one at)
     (sets-eq (x / 256 ∷ x % 256 ∷ []) s at room ∙ append_assoc (take at s) (x / 256 ∷ x % 256 ∷ []) (drop (at + 2) s)
     ∙ sym (laid_fits s at (x / 256 ∷ x % 256 ∷ []) room))
 
-pairs_next : (s : List ℕ) (at : ℕ) (l : List ℕ) (i : ℕ) → i < length l → at + 2 * length l ≤ length s
+pub pairs_next : (s : List ℕ) (at : ℕ) (l : List ℕ) (i : ℕ) → i < length l → at + 2 * length l ≤ length s
     → laid (laid s at (pairs_of (take i l))) (at + 2 * i) (octets 2 (get_or l i 0)) ≡ laid s at (pairs_of (take (i + 1) l))
 pairs_next s at l i h room =
     let next : pairs_of (take (i + 1) l) ≡ pairs_of (take i l) ++ octets 2 (get_or l i 0)

@@ -23,13 +23,18 @@ pub struct Report {
     pub name: [u8; NAME],
 }
 
+impl Report {
+    // "24 for a fault section that breaks these rules", and nothing more.
+    pub const REFUSED: Result<Report, Refusal> = Err(Refusal::Fault);
+}
+
 #[tactic(auto, using(crate::proofs::ReadingLaws::name_whole, crate::proofs::PlacesLaws::list_name, crate::proofs::PlacesLaws::list_from), unfolding(crate::specs::Reading::reading_of, crate::specs::Reading::report_of, crate::specs::Places::places_of))]
 pub fn read_section(s: &[u8]) -> Result<Report, Refusal>
     ensures { result ≡ reading_of s.now }
 {
     let p = places_of(s);
     if !is_judged(s, p) {
-        return Err(Refusal::Fault);
+        return Report::REFUSED;
     }
     let name = name_at(s, p.list - NAME);
     Ok(Report {

@@ -119,15 +119,17 @@ fn write_back(buffer: &mut [u8], at: usize, errors: &[u16], options: &[u8])
     lay(buffer, count + 4, options);
 }
 
-// Octet by octet, which the compiler makes many at a time; a call for each number would be asked for its room each time.
+// Octet by octet, which the compiler makes many at a time (over `numbers.iter().enumerate()` only from 20 errors on); a call
+// for each number would be asked for its room each time.
 #[tactic(auto, using(crate::proofs::WritingLaws::pairs_none, crate::proofs::WritingLaws::pairs_stored))]
 fn write_numbers(s: &mut [u8], at: usize, numbers: &[u16])
     requires { at + 2 * length numbers.now ≤ length s.old }
     ensures { s.new ≡ laid s.old at (pairs_of numbers.now) }
 {
-    for (i, x) in numbers.iter().enumerate() {
+    for i in 0..numbers.len() {
+        let x = numbers[i];
         let place = at + 2 * i;
-        s[place] = (*x / 256) as u8;
-        s[place + 1] = (*x % 256) as u8;
+        s[place] = (x / 256) as u8;
+        s[place + 1] = (x % 256) as u8;
     }
 }

@@ -63,7 +63,12 @@ impl Groups {
     fn place_among(self, k: u8, group: Group) -> u8
         ensures { result ≡ place_among (number_at self) k group.0 }
     {
-        (0..k).find(|i| self.at(*i) == group).unwrap_or(k)
+        for i in 0..k {
+            if self.at(i) == group {
+                return i;
+            }
+        }
+        k
     }
 
     // At which place a group stands; the count where it is not registered, which is what 25 asks.

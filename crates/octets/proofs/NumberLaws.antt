@@ -1,11 +1,11 @@
 -- Laws of numbers in octets, each once over the width. Assumes nothing.
-use Rattle.std.specs.Prelude.{◌≡◌, refl, ◌⊎◌, List, [], ◌∷◌, ◌++◌, ℕ, zero, suc, ◌+◌, ◌-◌, ◌*◌, ◌/◌, ◌%◌, ◌^◌, ◌≤◌, ◌<◌, true, ◌&&◌, eqb, ltb, length, take, drop}
-use Rattle.std.proofs.Common.{sym, ap, ap₂, ◌∙◌, inl, inr, ⊎_elim, add-zero, add-suc, zero-add, mul_assoc, pow-suc, add-mul, mul_comm, mod-eq_of_lt, mul-le-mul_right, arith, length-append, ext_get_or, get_or-take, get_or-drop, length-take-le, eqb-true, eq-eqb, ltb-true, lt-ltb}
+use Rattle.std.specs.Prelude.{◌≡◌, refl, ◌⊎◌, List, [], ◌∷◌, ◌++◌, ℕ, zero, suc, ◌+◌, ◌-◌, ◌*◌, ◌/◌, ◌%◌, ◌^◌, ◌≤◌, ◌<◌, true, ◌&&◌, eqb, ltb, length, take, drop, set}
+use Rattle.std.proofs.Common.{sym, ap, ap₂, ◌∙◌, inl, inr, ⊎_elim, append_assoc, add-zero, add-suc, zero-add, mul_assoc, pow-suc, add-mul, mul_comm, mod-eq_of_lt, mul-le-mul_right, arith, length-append, drop_of_length-le, ext_get_or, get_or-take, get_or-drop, drop_at, length-take-le, eqb-true, eq-eqb, ltb-true, lt-ltb}
 use Rattle.std.proofs.Math.Nat.{mod-one, pow-succ', div-div-eq-div-mul}
 use Rattle.std.proofs.Math.Arith.{mod-mul, digits_lt}
 use Rattle.std.proofs.Math.ListN.{get_or-append}
 use Rattle.std.proofs.Math.Pow.{are_bytes}
-use Rattle.std.proofs.lemmas.List.{get_or_at}
+use Rattle.std.proofs.lemmas.List.{get_or_at, drop-append-le, set_split}
 use Rattle.std.specs.Int.{byte_at as lib_octet, byte_worth, bytes_high_first, sum_through}
 use Rattle.octets.specs.Number.{octet, number, octets, Octets}
 use Rattle.octets.specs.Run.{laid}
@@ -109,6 +109,27 @@ be_octets (suc w) x = be_octets_more w x ∙ ap (λ (l : List ℕ). l ++ (x % 25
 pub octets_one : (x : ℕ) → x < 256 → x ∷ [] ≡ octets 1 x
 unfolding octets
 octets_one x h = ap (λ (y : ℕ). y ∷ []) (sym (mod-eq_of_lt h))
+
+octets_last : (k w x : ℕ) → drop k (octets (k + w) x) ≡ octets w x
+unfolding octets
+octets_last k zero x = rw (add-zero k) (drop_of_length-le (octets k x) {i = k} (omega (arith, length_octets k x)))
+octets_last k (suc w) x =
+    rw (add-suc k w)
+    (drop-append-le k (octets (k + w) (x / 256)) (x % 256 ∷ []) (omega (arith, length_octets (k + w) (x / 256)))
+    ∙ ap (λ (l : List ℕ). l ++ (x % 256 ∷ [])) (octets_last k w (x / 256)))
+
+-- The w low octets of a number are the last of n.
+pub octets_low : (n w x : ℕ) → w ≤ n → drop (n - w) (octets n x) ≡ octets w x
+octets_low n w x h =
+    let e : n ≡ n - w + w = omega arith in
+    ap (λ (m : ℕ). drop (n - w) (octets m x)) e ∙ octets_last (n - w) w x
+
+-- The low octet is taken off a number and laid down behind the i octets that are left: all of them together stay.
+pub octets_off : (i x : ℕ) (l all : List ℕ) → i < length l → octets (suc i) x ++ drop (suc i) l ≡ all → octets i (x / 256) ++ drop i (set l i (x % 256)) ≡ all
+unfolding octets
+octets_off i x l all h e =
+    rw (set_split l i (x % 256) h, drop_at (take i l) (x % 256 ∷ drop (suc i) l) i (length-take-le i l (omega arith)))
+    (sym (append_assoc (octets i (x / 256)) (x % 256 ∷ []) (drop (suc i) l)) ∙ e)
 
 -- The octets of a number make it again, as far as they reach.
 pub number_octets : (w x : ℕ) → number w (octets w x) 0 ≡ x % 256 ^ w

@@ -1,5 +1,5 @@
 -- Laws of runs: what was laid down is there, and all else stays. Assumes nothing.
-use Rattle.std.specs.Prelude.{◌≡◌, ◌⊎◌, false, List, [], ◌++◌, ℕ, ◌+◌, ◌-◌, ◌≤◌, ◌<◌, leb, take}
+use Rattle.std.specs.Prelude.{◌≡◌, ◌⊎◌, false, List, [], ◌∷◌, ◌++◌, ℕ, ◌+◌, ◌-◌, ◌≤◌, ◌<◌, leb, take}
 use Rattle.std.proofs.Math.Path.{sym, ap}
 use Rattle.std.proofs.Common.{◌∙◌, ⊎_elim, append_assoc, append-nil, add_assoc, take-append-drop, drop_of_length-le, length-append, length-take, length-drop, take-take, length-take-le, get_or-append-add, get_or-take, get_or-drop, take-add, take_at, drop_at, le-leb}
 use native.Mathlib.Omega.{arith}
@@ -144,6 +144,13 @@ pub laid_nothing : (s : List ℕ) (at : ℕ) → at ≤ length s → laid s at [
 laid_nothing s at h =
     let e : at + 0 ≡ at = omega arith in
     laid_fits s at [] (omega arith) ∙ ap (λ (k : ℕ). take at s ++ drop k s) e ∙ take-append-drop at s
+
+pub laid_empty : (s : List ℕ) (at : ℕ) (p : List ℕ) → length p ≡ 0 → laid s at p ≡ s
+laid_empty s at [] e = ⊎_elim
+    (λ (h : length s < at). laid_past s at [] (omega (arith, h)))
+    (λ (h : at ≤ length s). laid_nothing s at h)
+    (lt_or_le (length s) at)
+laid_empty s at (x ∷ p) e = absurd (omega (arith, e))
 
 -- What is laid over all of a list is what is left.
 pub laid_all : (s p : List ℕ) → length p ≡ length s → laid s 0 p ≡ p

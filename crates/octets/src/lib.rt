@@ -90,6 +90,10 @@ pub fn lay(s: &mut [u8], at: usize, run: &[u8])
     ensures { s.new ≡ laid s.old at run.now }
 {
     let n = run.len();
+    // so that no call is left of an empty run
+    if n == 0 {
+        return;
+    }
     if ends_within(s.len(), at, n) {
         s[at..at + n].copy_from_slice(run);
     }

@@ -30,7 +30,7 @@ use Rattle.answers.specs.declared.Listener.{Listener}
 use Rattle.answers.specs.declared.Setup.{Setup}
 use Rattle.rules.specs.calls.First.{Row, row, checked, first, Given}
 use Rattle.rules.proofs.calls.FirstLaws.{first_none, first_append, without, first_without, behind_without, first_given, refusal_given, some_number, checked_none}
-use Rattle.rules.proofs.calls.ExactlyLaws.{multicast_refuses}
+use Rattle.rules.proofs.calls.ExactlyLaws.{multicast_with}
 use Rattle.rules.specs.calls.Message.{head_within}
 use Rattle.rules.specs.calls.Multicast.{Tables, entries_of, entry_place, entry_at, with_entry, place_for, one_piece, verdict_in, cast_rows, listening, cast_outcome, kept_by, multicast_rows, multicast_answer, multicast_tables}
 use Rattle.rules.proofs.calls.MessageLaws.{head_pri, head_number}
@@ -88,10 +88,10 @@ module _ (q : Setup) (begun : Tables) (log : List Exchange) (w : World) (a : Agr
     no_delivery : casts (x ∷ log) ≡ casts log
     unfolding casts said
     no_delivery =
-        rw ((multicast_refuses w.state t g packet given_by.0 given_row).0, ne_eqb (number_of given_by.0) 1 (λ z. omega (arith, nine_or_more given_by.0, z)))
+        rw ((multicast_with w.state t g packet given_by.0 given_row).0, ne_eqb (number_of given_by.0) 1 (λ z. omega (arith, nine_or_more given_by.0, z)))
 
     refused : Entries q begun (x ∷ log) (multicast_tables w.state t g packet)
-    refused = rw (multicast_refuses w.state t g packet given_by.0 given_row).1
+    refused = rw (multicast_with w.state t g packet given_by.0 given_row).1
         (record { right = inv.right; entry = λ i j p b c d. rw no_delivery (inv.entry i j p b c d) })
 
   -- It is delivered.

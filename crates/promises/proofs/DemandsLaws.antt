@@ -52,7 +52,7 @@ use Rattle.promised.proofs.MessageSaysLaws.{safe}
 use Rattle.promised.specs.Says.{senders_of, place_of, says}
 use Rattle.promised.proofs.SaysLaws.{held_says_lem}
 use Rattle.promised.specs.Log.{told_by, Exchange, logged, name_of, deliveries, last_of, accepted_with, open_of, life_of}
-use Rattle.rules.proofs.calls.ExactlyLaws.{message_refuses, message_given, alive_refuses, alive_given, clock_refuses, clock_given, question_refuses, question_given, multicast_refuses, multicast_given, setup_refuses, setup_given}
+use Rattle.rules.proofs.calls.ExactlyLaws.{message_with, message_given, alive_with, alive_given, clock_with, clock_given, question_with, question_given, multicast_with, multicast_given, setup_refuses, setup_given}
 use Rattle.rules.specs.calls.First.{Row, row, Given}
 use Rattle.rules.proofs.calls.FirstLaws.{above, given_above, first_neither, given_refusal, check_case}
 use Rattle.promised.specs.Join.{Joined}
@@ -94,19 +94,19 @@ said_refused : (w : World) (e : Event) (r : Refusal) → Given (rows_of w e) (nu
     → (number_in e (said w e) ≡ number_of r) × (NothingMore e (said w e) (number_of r) × (step w e ≡ w))
 unfolding said step
 said_refused w (message packet) r g = unfold refused in
-    let f = message_refuses w.state w.storage packet r g in
+    let f = message_with w.state w.storage packet r g in
     (rw f.0, ((rw f.0 (ap (message_refused (number_of r)) (asked_once (number_of r) _)), rw f.0), rw (f.0, f.1)))
 said_refused w (alive packet) r g =
-    let f = alive_refuses w.state packet r g in
+    let f = alive_with w.state packet r g in
     (rw f, (rw f, rw f))
 said_refused w (clock now) r g = unfold not_ticked in
-    let f = clock_refuses w.state now r g in
+    let f = clock_with w.state now r g in
     (rw f, (rw f, rw f))
 said_refused w (aside question) r g =
-    let f = question_refuses w.state r g in
+    let f = question_with w.state r g in
     (rw f, (rw f, refl))
 said_refused w (aside (multicast t g packet)) r given =
-    let f = multicast_refuses w.state t g packet r given in
+    let f = multicast_with w.state t g packet r given in
     (rw f.0, ((rw f.0 (ap (group_refused (number_of r)) (asked_once (number_of r) _)), f.1, rw f.0), refl))
 
 said_refuses : (w : World) (e : Event) → Refuses (rows_of w e) (number_in e (said w e)) (λ k. NothingMore e (said w e) k × (step w e ≡ w))

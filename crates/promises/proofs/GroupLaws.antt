@@ -24,7 +24,7 @@ use Rattle.answers.specs.declared.Setup.{Setup}
 use Rattle.answers.specs.declared.Started.{Started}
 use Rattle.refusal.specs.declared.Refusal.TheVariants as refusals
 use Rattle.answers.specs.Told.{GroupTold}
-use Rattle.rules.proofs.calls.ExactlyLaws.{multicast_refuses}
+use Rattle.rules.proofs.calls.ExactlyLaws.{multicast_with}
 use Rattle.rules.specs.calls.First.{Row, row, first}
 use Rattle.rules.specs.calls.First as rows
 use Rattle.rules.proofs.calls.FirstLaws.{first_given, refusal_given, some_number}
@@ -131,7 +131,7 @@ own_entry_only w t g packet r v meets i j p below small other =
     (λ (some : n ≢ 0).
     let given = refusal_given (multicast_rows w.state t g packet) some in
     ap (λ (x : Tables). entry_at x k)
-    (multicast_refuses w.state t g packet given.0 (first_given (multicast_rows w.state t g packet) _ given.1.1 (some_number given.0))).1)
+    (multicast_with w.state t g packet given.0 (first_given (multicast_rows w.state t g packet) _ given.1.1 (some_number given.0))).1)
     (eq_or_ne n 0))
 
 -- ---- a message to a group

@@ -11,8 +11,7 @@ use Rattle.answers.specs.declared.Outcome.{Outcome}
 use Rattle.answers.specs.declared.Outcome.TheVariants.{Refused, Stored, Delivered}
 use Rattle.answers.specs.Told.{RefusedAs, outcome_told, message_told}
 use Rattle.rules.proofs.calls.ExactlyLaws.{message_refuses, message_given}
-use Rattle.rules.proofs.calls.FirstLaws.{given_refusal}
-use Rattle.rules.specs.calls.Message.{message_rows, refused, message_answer}
+use Rattle.rules.specs.calls.Message.{refused, message_answer}
 use Rattle.tally.specs.declared.Tally.{Tally}
 use Rattle.tally.specs.Tally.{most, stopping, counted, SaveACount, counted_by}
 
@@ -26,9 +25,8 @@ module _ (t : Tally) (w : Receiver) (storage packet : List ℕ) where
   unfolding refused
   save_a_count k e =
       let given = message_given w storage packet k e in
-      let is = given_refusal (message_rows w (length storage) packet) k given in
-      let r = message_refuses w storage packet is.0 (rw is.1 given) in
-      record { same_state = ap (λ (a : Answer). a.state) r.0; same_storage = r.1; one_refusal_lem = ap (λ (a : Answer). counted t a.outcome) r.0 }
+      let r = message_refuses w storage packet k given in
+      record { same_state = ap (λ (a : Answer). a.state) r.1.1.0; same_storage = r.1.1.1; one_refusal_lem = ap (λ (a : Answer). counted t a.outcome) r.1.1.0 }
 
   -- "one count of answers 0 and 1, one of refusals": which count grows is told by 01's number alone.
   pub by_number : counted t (message_answer w (length storage) packet).outcome

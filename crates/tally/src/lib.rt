@@ -5,9 +5,9 @@
 // state, any storage and any octets may come.
 #![tactic(auto)]
 
-ghost use Rattle.std.specs.Prelude.{◌≡◌, length};
+ghost use Rattle.std.specs.Prelude.{◌≡◌, ◌+◌, length};
 ghost use Rattle.rules.specs.calls.Message.{message_answer, message_storage};
-ghost use Rattle.tally.specs.Tally.{counted as counted_of};
+ghost use Rattle.tally.specs.Tally.{stopping, counted as counted_of};
 
 use answers::{Answer, Outcome};
 use state::Receiver;
@@ -45,7 +45,14 @@ pub fn message(tally: &mut Tally, state: Receiver, storage: &mut [u8], packet: &
     a
 }
 
-// "one count of answers 0 and 1, one of refusals, each stopping at 4,294,967,295": where a u32 stops.
+// "each stopping at 4,294,967,295": where a u32 stops.
+pub fn one_more(count: u32) -> u32
+    ensures { result ≡ stopping (count + 1) }
+{
+    count.saturating_add(1)
+}
+
+// "one count of answers 0 and 1, one of refusals"
 pub fn counted(tally: Tally, outcome: Outcome) -> Tally
     ensures { result ≡ counted_of tally outcome }
 {
@@ -54,10 +61,10 @@ pub fn counted(tally: Tally, outcome: Outcome) -> Tally
     match outcome {
         Outcome::Refused { .. } => Tally {
             answers,
-            refusals: refusals.saturating_add(1),
+            refusals: one_more(refusals),
         },
         _ => Tally {
-            answers: answers.saturating_add(1),
+            answers: one_more(answers),
             refusals,
         },
     }

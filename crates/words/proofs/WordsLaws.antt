@@ -2,6 +2,7 @@
 use Rattle.std.specs.Prelude.{ℕ, ◌+◌, ◌*◌, ◌/◌, ◌%◌, ◌≤◌, ◌<◌, ◌≡◌, refl, Bool, true, false, cond, ◌&&◌, List, ltb, length, take, drop}
 use Rattle.std.proofs.Common.{mod-eq_of_lt, lit<, arith, get_or-drop, ltb-true, leb-true, le-leb}
 use Rattle.std.proofs.Math.Numerals.{unary_clauses}
+use mir.Val.{bool_byte}
 use Rattle.std.proofs.Math.Dec.{leb}
 use Rattle.std.proofs.lemmas.Bool.{lt-leb}
 use Rattle.std.proofs.lemmas.List.{get_or-take}
@@ -14,8 +15,14 @@ use Rattle.state.specs.State.{no_heard}
 use Rattle.state.proofs.WithinLaws.{if_so, sender_facts}
 use Rattle.rules.specs.calls.Alike.{seen}
 use Rattle.words.specs.declared.Record.{Record}
-use Rattle.words.specs.Words.{place, each, word, record_in, no_record, record_at, half, flag, address_in, address_word, sender_of, fits}
+use Rattle.words.specs.Words.{place, each, word, record_in, no_record, record_at, half, flag, flag_word, address_in, address_word, sender_of, fits}
 use Rattle.words.specs.Shown.{heard_shown, shown}
+
+-- ---- flags
+
+pub flag_byte : (b : Bool) → bool_byte b ≡ flag_word b
+flag_byte true = refl
+flag_byte false = refl
 
 -- ---- addresses
 

@@ -11,7 +11,7 @@ returns-then-r-le1 c =
       answer = m.ensures.answer;
       left = m.ensures.left;
       stored = m.ensures.stored;
-      tallied = tally_answer a.tally.now a.state.now a.storage.now a.packet.now _ _ (ap (λ (t : Told). t.number) m.ensures.answer) c.if-r-le1.true c.saturating_add.ensures;
+      tallied = tally_answer a.tally.now a.state.now a.storage.now a.packet.now _ _ (ap (λ (t : Told). t.number) m.ensures.answer) c.if-r-le1.true c.one_more.ensures;
     }
 
 pub returns-else-r-le1 : goal.returns-else-r-le1
@@ -21,5 +21,5 @@ returns-else-r-le1 c =
       answer = m.ensures.answer;
       left = m.ensures.left;
       stored = m.ensures.stored;
-      tallied = tally_refusal a.tally.now a.state.now a.storage.now a.packet.now _ _ (ap (λ (t : Told). t.number) m.ensures.answer) c.if-r-le1.false c.saturating_add-else-r-le1.ensures;
+      tallied = tally_refusal a.tally.now a.state.now a.storage.now a.packet.now _ _ (ap (λ (t : Told). t.number) m.ensures.answer) c.if-r-le1.false c.one_more-else-r-le1.ensures;
     }

@@ -2,8 +2,11 @@
 use Rattle.std.proofs.Common.{sym, ◌∙◌, ◌+◌, ◌≤◌, length, arith, refl}
 use borrow.Author.Tests.{leb-true}
 use Rattle.std.proofs.lemmas.Slice.{put_mid-paste}
-use Rattle.octets.proofs.RunLaws.{laid_unfit, laid_paste}
+use Rattle.octets.proofs.RunLaws.{laid_unfit, laid_paste, laid_empty}
 use Rattle.octets.proofs.lay.Goals as goal
+
+pub returns-then-n-eq0 : goal.returns-then-n-eq0
+returns-then-n-eq0 c = sym (laid_empty _ _ _ c.if-n-eq0.true)
 
 pub returns-then-ends_within : goal.returns-then-ends_within
 returns-then-ends_within c =

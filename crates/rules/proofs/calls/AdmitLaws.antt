@@ -146,7 +146,7 @@ admission_by test n1 clock s h = by (checked (sender_rows test n1 s h))
     by (Ok y) = admitted_none n1 clock s h
     by (Err r) = refl
 
-admitted_zero : (n1 clock : ℕ) (s : Sender) (h : Head) → refused_number (admitted n1 clock s h).outcome ≡ 0
+pub admitted_zero : (n1 clock : ℕ) (s : Sender) (h : Head) → refused_number (admitted n1 clock s h).outcome ≡ 0
 unfolding admitted
 admitted_zero n1 clock s h = cond_case (λ (o : Outcome). refused_number o ≡ 0) (fills s h) _ _ (λ e. refl) (λ e. refl)
 

@@ -1,8 +1,8 @@
 -- "given exactly when": each call gives a number if and only if the number's row applies and no row before it does, on
 -- arbitrary arguments; and "A refusal alters no state, stamp, clock, storage or buffer." Assumes nothing.
 --
--- For each call, `…-refuses` says what is answered where a number is given, whole, and `…-given` that it is told nowhere
--- else.
+-- For each call, `…_refuses` says what is answered where a number is given, whole, and `…_given` that it is told nowhere
+-- else. `…_with` is the first for a refusal that is known.
 use Rattle.std.specs.Prelude.{◌≡◌, Bool, true, false, cond, List, ℕ, ◌<◌, ltb, length, Option, Ok, Err}
 use Rattle.std.proofs.Math.Path.{refl}
 use Rattle.std.proofs.Common.{sym, ◌∙◌, arith}
@@ -25,7 +25,7 @@ use Rattle.rules.specs.calls.Admit.{sender_rows, admitted, fills}
 use Rattle.rules.specs.calls.Alive.{alive_rows, not_noted, alive_answer}
 use Rattle.rules.specs.calls.Clock.{clock_rows, ticked, not_ticked, clock_answer}
 use Rattle.rules.specs.calls.First.{Row, checked, Given, by_check}
-use Rattle.rules.proofs.calls.FirstLaws.{given_first, first_given, checked_given, check_case, above, rises}
+use Rattle.rules.proofs.calls.FirstLaws.{given_first, first_given, checked_given, given_refusal, check_case, above, rises}
 use Rattle.state.specs.Table.{found}
 use Rattle.rules.specs.calls.Message.{message_rows, taken, refused, verdict_at, message_answer, message_storage}
 use Rattle.rules.specs.calls.Multicast.{Tables, verdict_in, listening, multicast_rows, cast_outcome, kept_by, group_answer, multicast_answer, multicast_tables}
@@ -49,6 +49,13 @@ module _ {A : Type 0} (rs : List Row) (a : A) (f : Refusal → A) where
       (λ e x. absurd (omega (arith, low, x.0, x.1)))
       (λ r e x. first_given rs k (e ∙ sym (same r) ∙ x.0) (λ z. omega (arith, x.1, z)))
 
+-- A number that is given is a refusal's, of which what is known of each holds.
+by_given : (P : Refusal → Type 0) (rs : List Row) → ((r : Refusal) → Given rs (number_of r) → P r) → (k : ℕ) → Given rs k
+    → (r : Refusal) × ((number_of r ≡ k) × P r)
+by_given P rs with_refusal k g =
+    let is = given_refusal rs k g in
+    (is.0, (is.1, with_refusal is.0 (rw is.1 g)))
+
 -- ---- the message call: 9 and 11 to 20
 
 module _ (w : Receiver) (storage packet : List ℕ) where
@@ -69,13 +76,19 @@ module _ (w : Receiver) (storage packet : List ℕ) where
   abbrev no : Refusal → Answer
   no r = refused w (refusal r (verdict_at w h))
 
-  pub message_refuses : (r : Refusal) → Given (message_rows w (length storage) packet) (number_of r)
+  pub message_with : (r : Refusal) → Given (message_rows w (length storage) packet) (number_of r)
       → (message_answer w (length storage) packet ≡ refused w (refusal r (verdict_at w h))) × (message_storage w storage packet ≡ storage)
   unfolding message_answer message_storage
-  message_refuses r g = (
+  message_with r g = (
     given_refused (message_rows w (length storage) packet) _ no r g,
     given_refused (message_rows w (length storage) packet) _ (λ j. storage) r g,
   )
+
+  pub message_refuses : (k : ℕ) → Given (message_rows w (length storage) packet) k → (r : Refusal) × ((number_of r ≡ k)
+      × ((message_answer w (length storage) packet ≡ refused w (refusal r (verdict_at w h))) × (message_storage w storage packet ≡ storage)))
+  message_refuses = by_given
+      (λ r. (message_answer w (length storage) packet ≡ refused w (refusal r (verdict_at w h))) × (message_storage w storage packet ≡ storage))
+      (message_rows w (length storage) packet) message_with
 
   pub message_given : (k : ℕ) → RefusedAs (message_told (message_answer w (length storage) packet)).outcome.number k → Given (message_rows w (length storage) packet) k
   unfolding message_answer refused
@@ -89,9 +102,12 @@ module _ (w : Receiver) (packet : List ℕ) where
   unfolding alive_rows rises above
   alive_rises = refl
 
-  pub alive_refuses : (r : Refusal) → Given (alive_rows w packet) (number_of r) → alive_answer w packet ≡ not_noted w r
+  pub alive_with : (r : Refusal) → Given (alive_rows w packet) (number_of r) → alive_answer w packet ≡ not_noted w r
   unfolding alive_answer
-  alive_refuses = given_refused (alive_rows w packet) _ (not_noted w)
+  alive_with = given_refused (alive_rows w packet) _ (not_noted w)
+
+  pub alive_refuses : (k : ℕ) → Given (alive_rows w packet) k → (r : Refusal) × ((number_of r ≡ k) × (alive_answer w packet ≡ not_noted w r))
+  alive_refuses = by_given (λ r. alive_answer w packet ≡ not_noted w r) (alive_rows w packet) alive_with
 
   pub alive_given : (k : ℕ) → RefusedAs (call_number (alive_answer w packet).call) k → Given (alive_rows w packet) k
   unfolding alive_answer
@@ -104,9 +120,12 @@ module _ (w : Receiver) (now : ℕ) where
   unfolding rises above
   clock_rises = refl
 
-  pub clock_refuses : (r : Refusal) → Given (clock_rows w now) (number_of r) → clock_answer w now ≡ not_ticked w r
+  pub clock_with : (r : Refusal) → Given (clock_rows w now) (number_of r) → clock_answer w now ≡ not_ticked w r
   unfolding clock_answer
-  clock_refuses = given_refused (clock_rows w now) _ (not_ticked w)
+  clock_with = given_refused (clock_rows w now) _ (not_ticked w)
+
+  pub clock_refuses : (k : ℕ) → Given (clock_rows w now) k → (r : Refusal) × ((number_of r ≡ k) × (clock_answer w now ≡ not_ticked w r))
+  clock_refuses = by_given (λ r. clock_answer w now ≡ not_ticked w r) (clock_rows w now) clock_with
 
   pub clock_given : (k : ℕ) → RefusedAs (clock_told (clock_answer w now)).number k → Given (clock_rows w now) k
   unfolding clock_answer ticked not_ticked
@@ -115,9 +134,12 @@ module _ (w : Receiver) (now : ℕ) where
 -- ---- the question: 9
 
 module _ (w : Receiver) where
-  pub question_refuses : (r : Refusal) → Given (question_rows w) (number_of r) → question_answer w ≡ Err r
+  pub question_with : (r : Refusal) → Given (question_rows w) (number_of r) → question_answer w ≡ Err r
   unfolding question_answer
-  question_refuses = given_refused (question_rows w) _ Err
+  question_with = given_refused (question_rows w) _ Err
+
+  pub question_refuses : (k : ℕ) → Given (question_rows w) k → (r : Refusal) × ((number_of r ≡ k) × (question_answer w ≡ Err r))
+  question_refuses = by_given (λ r. question_answer w ≡ Err r) (question_rows w) question_with
 
   pub question_given : (k : ℕ) → RefusedAs (question_told (question_answer w)).number k → Given (question_rows w) k
   unfolding question_answer
@@ -138,10 +160,16 @@ module _ (w : Receiver) (t : Tables) (g : ℕ) (packet : List ℕ) where
   unfolding cast_outcome
   outcome_refused_lem = given_refused (multicast_rows w t g packet) _ unheard
 
-  pub multicast_refuses : (r : Refusal) → Given (multicast_rows w t g packet) (number_of r)
+  pub multicast_with : (r : Refusal) → Given (multicast_rows w t g packet) (number_of r)
       → (multicast_answer w t g packet ≡ group_answer (refusal r (verdict_in (listening w (head_of packet)) t g (head_of packet)))) × (multicast_tables w t g packet ≡ t)
   unfolding multicast_answer multicast_tables kept_by
-  multicast_refuses r given = (rw (outcome_refused_lem r given), rw (outcome_refused_lem r given))
+  multicast_with r given = (rw (outcome_refused_lem r given), rw (outcome_refused_lem r given))
+
+  pub multicast_refuses : (k : ℕ) → Given (multicast_rows w t g packet) k → (r : Refusal) × ((number_of r ≡ k)
+      × ((multicast_answer w t g packet ≡ group_answer (refusal r (verdict_in (listening w (head_of packet)) t g (head_of packet)))) × (multicast_tables w t g packet ≡ t)))
+  multicast_refuses = by_given
+      (λ r. (multicast_answer w t g packet ≡ group_answer (refusal r (verdict_in (listening w (head_of packet)) t g (head_of packet)))) × (multicast_tables w t g packet ≡ t))
+      (multicast_rows w t g packet) multicast_with
 
   pub multicast_given : (k : ℕ) → RefusedAs (group_told (multicast_answer w t g packet)).outcome.number k → Given (multicast_rows w t g packet) k
   unfolding multicast_answer cast_outcome
